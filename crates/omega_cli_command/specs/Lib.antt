@@ -2,6 +2,7 @@
 pub use Rattle.omega_game_values.specs.Player
 pub mod Limits
 pub mod Values
+pub mod Flags
 pub mod Options
 pub mod Source
 pub mod Subcommands

@@ -1,5 +1,4 @@
 -- What only private contracts cite.
-pub mod Flags
 pub mod Numbers
 pub mod Tasks
 pub mod Verify

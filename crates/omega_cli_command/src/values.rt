@@ -6,7 +6,7 @@ ghost use Rattle.omega_cli_command.specs.Options.{GivesFormat, GivesNode, text_o
 ghost use Rattle.omega_cli_command.specs.Values.{Gives, GivesBudget, GivesFlag, IsNumberText};
 ghost use Rattle.omega_cli_command.specs.Values.{IsPlayerText, IsTruthText};
 ghost use Rattle.omega_cli_command.specs.declared.options.OptionName.TheVariants as name;
-ghost use Rattle.omega_cli_command.specs.private.Flags.{IsNoTruth};
+ghost use Rattle.omega_cli_command.specs.Flags.{IsNoTruth};
 
 use crate::format::Format;
 use crate::limits::MOST_BUDGET;

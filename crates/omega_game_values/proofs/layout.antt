@@ -1,5 +1,4 @@
 -- Games and builders as columns and joined lists.
 pub mod Columns
-pub mod JoinedLists
 pub mod CountedPredecessors
 pub mod StoredPredecessors

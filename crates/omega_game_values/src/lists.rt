@@ -1,7 +1,9 @@
 ghost use Rattle.std.specs.Prelude.{◌≡◌, ◌<◌, ◌≤◌, ◌+◌, [], ◌∷◌, ◌++◌, length, map, take};
 ghost use Rattle.std.specs.Prelude.{vec_len, sum_by, slice_index_or, IfOk, OnOk, OnErr};
-ghost use Rattle.omega_game_values.specs.private.layout.Lists.{last_list, list_at, lists_of};
-ghost use Rattle.omega_game_values.specs.private.layout.Lists.{with_last_list, AreStarts};
+ghost use Rattle.omega_game_values.specs.private.layout.Lists.{last_list};
+ghost use Rattle.omega_text.specs.JoinedLists.{list_at, lists_of};
+ghost use Rattle.omega_game_values.specs.private.layout.Lists.{with_last_list};
+ghost use Rattle.omega_text.specs.JoinedLists.{AreStarts};
 ghost use Rattle.omega_game_values.specs.private.layout.Columns.{identifiers_of};
 ghost use Rattle.omega_game_values.specs.private.layout.Resolving.{are_defined, resolved_in};
 ghost use Rattle.omega_text.specs.Limits.{most_number};
@@ -20,7 +22,7 @@ pub(crate) struct Lists<T> {
 
 impl<T> Model for Lists<T> {
     ghost use Rattle.std.specs.Prelude.{List, length};
-    ghost use Rattle.omega_game_values.specs.private.layout.Lists.{lists_of, AreStarts};
+    ghost use Rattle.omega_text.specs.JoinedLists.{lists_of, AreStarts};
 
     ghost Value = { List (List T) };
 

@@ -1,6 +1,5 @@
 -- Lemmas of the crate's proofs.
 -- Lemmas of walks and their marks, and of formulas on them.
-mod JoinedLists
 mod Linking
 mod Linked
 mod Growing

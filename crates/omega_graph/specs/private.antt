@@ -1,5 +1,4 @@
 -- What only private contracts cite.
-pub mod Lists
 pub mod Ends
 pub mod Links
 pub mod Searching

@@ -1,6 +1,6 @@
 ghost use Rattle.std.specs.Prelude.{◌≡◌, ◌<◌, ◌+◌, [], ◌∷◌, ◌++◌, length, slice_index_or, OnOk, OnErr};
 ghost use Rattle.omega_graph.specs.Components.{edge_component_at};
-ghost use Rattle.omega_graph.specs.private.Lists.{AreStarts, list_at};
+ghost use Rattle.omega_text.specs.JoinedLists.{AreStarts, list_at};
 
 use std::alloc::{AllocError, Global};
 use std::marker::Model;
@@ -15,7 +15,7 @@ pub struct EdgeComponents {
 
 impl Model for EdgeComponents {
     ghost use Rattle.std.specs.Prelude.{List, ℕ, length};
-    ghost use Rattle.omega_graph.specs.private.Lists.{lists_of, AreStarts};
+    ghost use Rattle.omega_text.specs.JoinedLists.{lists_of, AreStarts};
 
     ghost Value = { List (List ℕ) };
 

@@ -17,7 +17,7 @@ use omega_hoa_acceptance::RawAcc;
 use omega_hoa_automaton::{Automaton, RawAutomaton, StateName, automaton_of};
 use omega_hoa_label::RawLabel;
 use omega_hoa_syntax::{RawEdge, RawEdges, RawItem, RawState};
-use omega_text::{ByteString, Marks, Numbers, Refusal, Seq, TaskFault};
+use omega_text::{ByteString, Marks, Numbers, Refusal, Seq, TaskFault, copy_of_strings};
 use std::alloc::Global;
 
 /// Returns the complement as a text writes it, from the dual acceptance and the states.
@@ -207,20 +207,8 @@ fn propositions(alloc: Global, automaton: &Automaton) -> Result<RawItem, Refusal
     let count = names.len() as u32;
     Ok(RawItem::Propositions {
         count,
-        names: Seq::from_vec(copy_of_names(alloc, names)?),
+        names: Seq::from_vec(copy_of_strings(alloc, names)?),
     })
-}
-
-/// Copies `names`.
-fn copy_of_names(alloc: Global, names: &[ByteString]) -> Result<Vec<ByteString>, Refusal>
-    ensures same { IfOk result (λ same. same.items ≡ names.now) }
-    ensures memory { IsOkUnless result Refusal.Memory }
-{
-    let mut same = Vec::with_capacity(alloc, names.len())?;
-    for name in names {
-        same.push(ByteString::from_slice(alloc, name.as_slice())?)?;
-    }
-    Ok(same)
 }
 
 /// Returns the sink.

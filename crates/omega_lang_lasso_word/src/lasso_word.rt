@@ -5,7 +5,7 @@ use crate::element_text::ElementText;
 use crate::form::lasso_form;
 use crate::letters::write_conjuncts;
 use omega_hoa_label::Label;
-use omega_text::{ByteString, Refusal, Seq};
+use omega_text::{ByteString, Refusal, Seq, copy_of_strings};
 use std::alloc::Global;
 
 /// Words along a lasso, whose letters are conjunctions of labels. After the letters of the stem come those of the
@@ -31,25 +31,13 @@ impl LassoWord {
         ensures word { IfOk result (λ word. word ≡ words_over names.now stem.items cycle.items) }
         ensures memory { IsOkUnless result Refusal.Memory }
     {
-        let names = copy_of_names(alloc, names)?;
+        let names = copy_of_strings(alloc, names)?;
         Ok(LassoWord {
             names: Seq::from_vec(names),
             stem: Seq::from_vec(stem),
             cycle: Seq::from_vec(cycle),
         })
     }
-}
-
-/// Copies `names`.
-fn copy_of_names(alloc: Global, names: &[ByteString]) -> Result<Vec<ByteString>, Refusal>
-    ensures same { IfOk result (λ same. same.items ≡ names.now) }
-    ensures memory { IsOkUnless result Refusal.Memory }
-{
-    let mut same = Vec::with_capacity(alloc, names.len())?;
-    for name in names {
-        same.push(ByteString::from_slice(alloc, name.as_slice())?)?;
-    }
-    Ok(same)
 }
 
 /// Returns the text of `word`. As Spot writes words, it has the letters of the stem, a semicolon after each, and those

@@ -5,7 +5,7 @@ ghost use Rattle.std.specs.List.{list_any, position_or_len};
 ghost use Rattle.std.specs.Str.{bytes_eq};
 ghost use Rattle.omega_lang_product.specs.Joining.{joined_names as names_of_both, places_among as places_of};
 
-use omega_text::{ByteString, Refusal};
+use omega_text::{ByteString, Refusal, copy_of_strings};
 use std::alloc::Global;
 
 /// Returns `names`, and then those `others` that are not among them. Takes the time of comparing each two.
@@ -17,25 +17,13 @@ pub fn joined_names(
     ensures ok { IfOk result (λ joined. joined.items ≡ names_of_both names.now others.now) }
     ensures memory { IsOkUnless result Refusal.Memory }
 {
-    let mut joined = copy_of_names(alloc, names)?;
+    let mut joined = copy_of_strings(alloc, names)?;
     for name in others {
         if !is_among(name.as_slice(), names) {
             joined.push(ByteString::from_slice(alloc, name.as_slice())?)?;
         }
     }
     Ok(joined)
-}
-
-/// Copies `names`.
-fn copy_of_names(alloc: Global, names: &[ByteString]) -> Result<Vec<ByteString>, Refusal>
-    ensures ok { IfOk result (λ same. same.items ≡ names.now) }
-    ensures memory { IsOkUnless result Refusal.Memory }
-{
-    let mut same = Vec::with_capacity(alloc, names.len())?;
-    for name in names {
-        same.push(ByteString::from_slice(alloc, name.as_slice())?)?;
-    }
-    Ok(same)
 }
 
 /// Whether one of `names` has these bytes.

@@ -7,13 +7,13 @@ ghost use Rattle.omega_lang_trim.specs.Trimmed.{starts_kept, trimmed};
 ghost use Rattle.omega_lang_trim.specs.Written.{acc_name_items, header, name_items, start_item};
 ghost use Rattle.omega_lang_trim.specs.private.Placed.{IsFew};
 
-use crate::names::{copied_acc_name, copied_names};
+use crate::names::copied_acc_name;
 use crate::numbers::{all_stay, new_numbers_of};
 use indexmap::IndexSet;
 use omega_hoa_acceptance::RawAcc;
 use omega_hoa_automaton::{Automaton, Refusal};
 use omega_hoa_syntax::RawItem;
-use omega_text::{ByteString, Seq};
+use omega_text::{ByteString, Seq, copy_of_strings};
 use std::alloc::Global;
 
 /// Returns the header, whose acceptance is `formula`.
@@ -139,7 +139,7 @@ fn propositions(alloc: Global, automaton: &Automaton) -> Result<RawItem, Refusal
     let count = names.len() as u32;
     Ok(RawItem::Propositions {
         count,
-        names: Seq::from_vec(copied_names(alloc, names)?),
+        names: Seq::from_vec(copy_of_strings(alloc, names)?),
     })
 }
 

@@ -1,4 +1,4 @@
-//! Copies of names.
+//! Copies of names of states and of acceptances.
 
 ghost use Rattle.std.specs.Prelude.{◌≡◌, IfOk, IsOkUnless};
 
@@ -6,18 +6,6 @@ use omega_hoa_acceptance::{AccName, Parameter};
 use omega_hoa_automaton::{Refusal, State, StateName};
 use omega_text::{ByteString, Seq};
 use std::alloc::Global;
-
-/// Copies the names of propositions.
-pub(crate) fn copied_names(alloc: Global, names: &[ByteString]) -> Result<Vec<ByteString>, Refusal>
-    ensures same { IfOk result (λ same. same.items ≡ names.now) }
-    ensures memory { IsOkUnless result Refusal.Memory }
-{
-    let mut same = Vec::with_capacity(alloc, names.len())?;
-    for name in names {
-        same.push(ByteString::from_slice(alloc, name.as_slice())?)?;
-    }
-    Ok(same)
-}
 
 /// Copies the name of `state`.
 pub fn copied_state_name(alloc: Global, state: &State) -> Result<StateName, Refusal>

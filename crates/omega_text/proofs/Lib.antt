@@ -5,5 +5,6 @@ pub mod hoa_texts
 pub mod pg_texts
 pub mod syntaxes
 pub mod Chunks
+pub mod JoinedLists
 pub mod Omniscience
 pub mod Rows

@@ -7,6 +7,7 @@ pub mod Cut
 pub mod Format
 pub mod Forms
 pub mod Lexeme
+pub mod JoinedLists
 pub mod Limits
 pub mod Omniscience
 pub mod Reading

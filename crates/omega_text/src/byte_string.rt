@@ -105,6 +105,17 @@ fn in_memory(alloc: Global, bytes: &[u8]) -> Result<Held, AllocError>
     Ok(Held::Long(Box::new(alloc, copy)?))
 }
 
+/// Returns a copy of `strings`. Takes the time of copying their bytes.
+pub fn copy_of_strings(alloc: Global, strings: &[ByteString]) -> Result<Vec<ByteString>, AllocError>
+    ensures { IfOk result (λ same. same.items ≡ strings.now) }
+{
+    let mut same = Vec::with_capacity(alloc, strings.len())?;
+    for string in strings {
+        same.push(ByteString::from_slice(alloc, string.as_slice())?)?;
+    }
+    Ok(same)
+}
+
 impl PartialEq for ByteString {
     ghost use Rattle.std.specs.Prelude.{nat_eq};
     ghost use Rattle.std.specs.Cmp.Lexicographic.{pointwise};

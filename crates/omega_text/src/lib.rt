@@ -33,7 +33,7 @@ mod token_reader;
 mod token_source;
 mod tokens;
 
-pub use byte_string::ByteString;
+pub use byte_string::{ByteString, copy_of_strings};
 pub use checking::check_tokens;
 pub use cursor::Cursor;
 pub use decimal::write_number;

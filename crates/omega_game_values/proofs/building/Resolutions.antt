@@ -12,7 +12,7 @@ use Rattle.std.proofs.lemmas.List.Edits.{map_over_more}
 use Rattle.std.proofs.lemmas.List.Folds.{list_all-append, list_any_none, list_all_more}
 use Rattle.std.proofs.lemmas.List.FromFn.{length-range_with_len, get_or-range_with_len, map-range_with_len_more}
 use Rattle.std.proofs.lemmas.List.Concat.{flat_map-append}
-use Rattle.omega_game_values.specs.private.layout.Lists.{list_at, lists_of, AreStarts}
+use Rattle.omega_text.specs.JoinedLists.{list_at, lists_of, AreStarts}
 use Rattle.omega_game_values.specs.private.layout.Columns.{identifiers_of}
 use Rattle.omega_game_values.specs.private.layout.Resolving.{is_defined, resolved_in}
 use Rattle.omega_game_values.proofs.layout.Columns.{identifiers_listed, identifiers_unlisted}

@@ -9,8 +9,8 @@ use Rattle.std.proofs.lemmas.List.Folds.{length-flat_map-take, sum_by-replicate}
 use Rattle.std.proofs.lemmas.List.Concat.{flat_map-append}
 use Rattle.std.proofs.lemmas.List.FromFn.{length-range_with_len, get_or-range_with_len, map-range_with_len_more, take-map-range_with_len, length-map-range_with_len, get_or-map-range_with_len}
 use Rattle.omega_game_values.specs.private.layout.Predecessors.{predecessors_in, predecessors_before, AreCounted, AreStartsOf}
-use Rattle.omega_game_values.specs.private.layout.Lists.{AreStarts, list_at, lists_of}
-use Rattle.omega_game_values.proofs.layout.JoinedLists.{length-lists_of, get_or-lists_of}
+use Rattle.omega_text.specs.JoinedLists.{AreStarts, list_at, lists_of}
+use Rattle.omega_text.proofs.JoinedLists.{length-lists_of, get_or-lists_of}
 
 -- the predecessors by the lists before v and by the first j entries of list v are filled in, up to each place's cursor
 pub record AreFilled (starts : List ℕ) (lists : List (List ℕ)) (v j : ℕ) (cursors sources : List ℕ) : Type 0 where

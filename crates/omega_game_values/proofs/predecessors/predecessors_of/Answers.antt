@@ -1,6 +1,6 @@
 -- `predecessors_of`: the predecessors of each place, rising, one for each listed edge, by counting.
 use Rattle.std.proofs.Common.{◌≡◌, ℕ, ◌<◌, [], length, List, get_or, arith, ap, sym, subst, ◌∙◌, All}
-use Rattle.omega_game_values.specs.private.layout.Lists.{AreStarts}
+use Rattle.omega_text.specs.JoinedLists.{AreStarts}
 use Rattle.omega_game_values.proofs.layout.CountedPredecessors.{AreStarts-of, cursor_within, filled_all, filled_more, filled_next, filled_none}
 use Rattle.omega_game_values.proofs.predecessors.predecessors_of.Goals as goal
 

@@ -1,8 +1,8 @@
 -- `list_in`: the list at an index of those that lie one after the other.
 use Rattle.std.proofs.Common.{◌≡◌, ◌+◌, ◌≤◌, length, get_or, rules, arith, refl}
 use Rattle.std.proofs.lemmas.List.{get_or_default}
-use Rattle.omega_graph.specs.private.Lists.{list_at}
-use Rattle.omega_graph.proofs.JoinedLists.{start_within}
+use Rattle.omega_text.specs.JoinedLists.{list_at}
+use Rattle.omega_text.proofs.JoinedLists.{start_within}
 use Rattle.omega_graph.proofs.edge_components.list_in.Goals as goal
 
 -- the start of the list, by either default

@@ -3,7 +3,7 @@ use Rattle.std.proofs.Common.{◌≡◌, length, map, arith, ap, sym, ◌∙◌}
 use Rattle.omega_game_values.proofs.building.Resolutions.{lists_of-map, flat-lists_of, list_all-flat_map}
 use Rattle.std.specs.List.{list_all}
 use Rattle.omega_game_values.specs.private.layout.Columns.{identifiers_of}
-use Rattle.omega_game_values.specs.private.layout.Lists.{lists_of}
+use Rattle.omega_text.specs.JoinedLists.{lists_of}
 use Rattle.omega_game_values.specs.private.layout.Resolving.{is_defined, resolved_in}
 use Rattle.std.proofs.lemmas.List.{with_items_is, length-map}
 use Rattle.std.specs.Vec.{with_items}

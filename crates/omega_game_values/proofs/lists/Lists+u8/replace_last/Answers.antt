@@ -1,6 +1,6 @@
 -- `Lists::replace_last`: replaces the last list by an item and those after it.
 use Rattle.std.proofs.Common.{◌≡◌, ℕ, ◌<◌, ◌-◌, ◌∷◌, length, List, get_or, take, arith, ap, ◌∙◌, length-append}
-use Rattle.omega_game_values.proofs.layout.JoinedLists.{length-lists_of, AreStarts-last, lists_of-replace_last, start_within}
+use Rattle.omega_text.proofs.JoinedLists.{length-lists_of, AreStarts-last, lists_of-replace_last, start_within}
 use Rattle.std.proofs.lemmas.List.{get_or_default, length-take-le}
 use Rattle.omega_game_values.proofs.lists.Lists+u8.replace_last.Goals as goal
 

@@ -1,6 +1,6 @@
 -- `Lists::len`: the number of lists.
 use Rattle.std.proofs.Common.{ap, length, arith}
-use Rattle.omega_game_values.proofs.layout.JoinedLists.{length-lists_of}
+use Rattle.omega_text.proofs.JoinedLists.{length-lists_of}
 use Rattle.omega_game_values.proofs.lists.Lists.len.Goals as goal
 
 pub returns : goal.returns

@@ -1,6 +1,6 @@
 -- `Lists::list`: the list at an index.
 use Rattle.std.proofs.Common.{◌<◌, [], length, get_or, arith, ap, sym, ◌∙◌}
-use Rattle.omega_game_values.proofs.layout.JoinedLists.{length-lists_of, get_or-lists_of}
+use Rattle.omega_text.proofs.JoinedLists.{length-lists_of, get_or-lists_of}
 use Rattle.omega_game_values.proofs.lists.Lists.list.Goals as goal
 
 pub list_in-requires-clause-within : goal.list_in-requires-clause-within

@@ -1,7 +1,7 @@
 -- `Lists::push_item`: adds an item to the last list.
 use Rattle.std.proofs.Common.{◌<◌, length, arith, ap}
 use Rattle.std.proofs.lemmas.List.{length_push}
-use Rattle.omega_game_values.proofs.layout.JoinedLists.{length-lists_of, AreStarts-grow, lists_of-push_item}
+use Rattle.omega_text.proofs.JoinedLists.{length-lists_of, AreStarts-grow, lists_of-push_item}
 use Rattle.omega_game_values.proofs.lists.Lists.push_item.Given.{Over}
 use Rattle.omega_game_values.proofs.lists.Lists.push_item.Goals as goal
 

@@ -1,6 +1,6 @@
 -- `Lists::push_list`: adds a list after the others.
 use Rattle.std.proofs.Common.{◌≡◌, [], ◌∷◌, ◌++◌, length, length-append, rules}
-use Rattle.omega_game_values.proofs.layout.JoinedLists.{AreStarts-push, lists_of-push_list}
+use Rattle.omega_text.proofs.JoinedLists.{AreStarts-push, lists_of-push_list}
 use Rattle.omega_game_values.proofs.lists.Lists.push_list.Given.{Over}
 use Rattle.omega_game_values.proofs.lists.Lists.push_list.Goals as goal
 

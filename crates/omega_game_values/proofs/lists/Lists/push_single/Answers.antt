@@ -1,7 +1,7 @@
 -- `Lists::push_single`: adds a list of one item after the others.
 use Rattle.std.proofs.Common.{◌≡◌, [], ◌∷◌, ◌++◌, length, rules}
 use Rattle.std.proofs.lemmas.List.{length_push}
-use Rattle.omega_game_values.proofs.layout.JoinedLists.{AreStarts-push, lists_of-push_list}
+use Rattle.omega_text.proofs.JoinedLists.{AreStarts-push, lists_of-push_list}
 use Rattle.omega_game_values.proofs.lists.Lists.push_single.Given.{Over}
 use Rattle.omega_game_values.proofs.lists.Lists.push_single.Goals as goal
 

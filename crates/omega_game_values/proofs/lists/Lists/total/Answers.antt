@@ -1,6 +1,6 @@
 -- `Lists::total`: the number of items of all lists together.
 use Rattle.std.proofs.Common.{ap, length, sum_by, arith}
-use Rattle.omega_game_values.proofs.layout.JoinedLists.{sum_by-lists_of}
+use Rattle.omega_text.proofs.JoinedLists.{sum_by-lists_of}
 use Rattle.omega_game_values.proofs.lists.Lists.total.Goals as goal
 
 pub returns : goal.returns

@@ -1,6 +1,6 @@
 -- `Lists::with_room`: no list, and room for so many.
 use Rattle.std.proofs.Common.{refl}
-use Rattle.omega_game_values.specs.private.layout.Lists.{lists_of}
+use Rattle.omega_text.specs.JoinedLists.{lists_of}
 use Rattle.omega_game_values.proofs.lists.Lists.with_room.Goals as goal
 
 pub returns : goal.returns

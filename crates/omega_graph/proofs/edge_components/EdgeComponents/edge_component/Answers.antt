@@ -1,6 +1,6 @@
 -- `EdgeComponents::edge_component`: the component at an index.
 use Rattle.std.proofs.Common.{◌<◌, [], length, get_or, arith, ap, sym, ◌∙◌}
-use Rattle.omega_graph.proofs.JoinedLists.{length-lists_of, get_or-lists_of}
+use Rattle.omega_text.proofs.JoinedLists.{length-lists_of, get_or-lists_of}
 use Rattle.omega_graph.proofs.edge_components.EdgeComponents.edge_component.Goals as goal
 
 pub list_in-requires-clause-within : goal.list_in-requires-clause-within

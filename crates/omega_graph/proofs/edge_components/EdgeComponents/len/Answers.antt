@@ -1,6 +1,6 @@
 -- `EdgeComponents::len`: the number of components.
 use Rattle.std.proofs.Common.{ap, length, arith}
-use Rattle.omega_graph.proofs.JoinedLists.{length-lists_of}
+use Rattle.omega_text.proofs.JoinedLists.{length-lists_of}
 use Rattle.omega_graph.proofs.edge_components.EdgeComponents.len.Goals as goal
 
 pub returns : goal.returns

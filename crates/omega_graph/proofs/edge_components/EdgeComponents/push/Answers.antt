@@ -1,6 +1,6 @@
 -- `EdgeComponents::push`: adds a component after the others.
 use Rattle.std.proofs.Common.{◌≡◌, [], ◌∷◌, ◌++◌, length, length-append, rules}
-use Rattle.omega_graph.proofs.JoinedLists.{AreStarts-push, lists_of-push_list}
+use Rattle.omega_text.proofs.JoinedLists.{AreStarts-push, lists_of-push_list}
 use Rattle.omega_graph.proofs.edge_components.EdgeComponents.push.Goals as goal
 
 -- the edges after the component was added

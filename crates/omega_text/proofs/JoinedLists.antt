@@ -5,7 +5,7 @@ use Rattle.std.specs.List.{range_with_len}
 use Rattle.std.proofs.lemmas.Bool.{cases_lt}
 use Rattle.std.proofs.lemmas.List.{same_lists, get_or_append_left, get_or_push, get_or_past, length_push, take-append-le, drop-append-le, take_all, drop_at, get_or-set_same, get_or-set_other, length-set, get_or_default, length-take-le, drop-take, take-take}
 use Rattle.std.proofs.lemmas.List.FromFn.{length-map-range_with_len, get_or-map-range_with_len, sum_by-map-range_with_len_more}
-use Rattle.omega_game_values.specs.private.layout.Lists.{list_at, lists_of, AreStarts}
+use Rattle.omega_text.specs.JoinedLists.{list_at, lists_of, AreStarts}
 
 -- there is a list for each start
 pub length-lists_of : {X : Type 0} (starts : List ℕ) (items : List X) → length (lists_of starts items) ≡ length starts
