@@ -6,7 +6,8 @@
     bench/bench.py --against before=path/to/another/omega    both, on the same inputs in one run
     bench/bench.py --plain "solve=path/to/solver --nested"   beside a program that does one of the tasks alone
     bench/bench.py --only random2 --only sparse --runs 9
-    bench/bench.py --table --plain ... > table.md            all figures as a table in Markdown
+    bench/bench.py --table --plain ... > table.md            all figures as tables in Markdown
+    bench/bench.py --quick --instructions --table            instructions in the place of times, by valgrind
 
 A command is called as `COMMAND solve --player 0`, `COMMAND check --format pg` and so on, with the text on standard
 input; that behind --plain is called as it stands, for the task before the first `=`, which is printed beside each
@@ -17,10 +18,12 @@ long it makes the exit status 1. Of a search the winners alone are compared.
 
 Times differ from run to run and machine to machine, so that only the ratios within one run mean something. A plain
 loop of this interpreter is timed beside each row: where that takes longer than elsewhere, the machine was busy.
+Instructions are counted once, since they are the same in each run, and whatever else the machine does.
 """
 import argparse
 import math
 import os
+import re
 import shlex
 import shutil
 import statistics
@@ -41,12 +44,15 @@ GNU_TIME = shutil.which("time")
 NOT_WON = 6
 OMEGA = os.path.join(ROOT, "crates", "omega_tool", "out", "omega_tool")
 VERIFY = ["verify"]
+HARD = "hard"
 TASKS = {
     "solve": [["solve"], ["solve", "--player", "0"], ["solve", "--player", "1"], ["solve", "--search"], VERIFY],
     # Games for which lifting for one player alone takes long.
     "turns": [["solve"], ["solve", "--search"], VERIFY],
     # Games for which lifting takes long.
     "searched": [["solve", "--search"], VERIFY],
+    # Games on which the recursive algorithm does not end: they are run beside no plain command.
+    HARD: [["check", "--format", "pg"], ["solve", "--search"], VERIFY],
     "read": [["check", "--format", "pg"], ["canon", "--format", "pg"]],
     "automata": [["check", "--format", "hoa"], ["canon", "--format", "hoa"]],
     "emptiness": [["check", "--format", "hoa"], ["canon", "--format", "hoa"], ["empty"], ["empty", "--search"]],
@@ -59,6 +65,9 @@ TASKS = {
 ANY_ANSWER = (["solve", "--search"], ["empty", "--search"], ["realize", "--controller"])
 # Where it is told how far the run has come.
 SAID = sys.stdout
+# The words before a command whose instructions are counted, and where their number stands in what they say.
+COUNTING = ["valgrind", "--tool=callgrind", "--callgrind-out-file=/dev/null"]
+COUNTED = re.compile(rb"Collected : (\d+)")
 # How often the loop goes round by which the machine is measured.
 ROUNDS = 2_000_000
 
@@ -93,6 +102,14 @@ def measured(command: list[str], words: list[str], path: str, seconds: float) ->
         return elapsed, status, output.read()
 
 
+def counted(command: list[str], words: list[str], path: str) -> tuple[float, int, bytes] | None:
+    """One run: its millions of instructions, its status and its output; none if they cannot be counted."""
+    with open(path, "rb") as text:
+        ran = subprocess.run(COUNTING + command + words, stdin=text, capture_output=True)
+    found = COUNTED.search(ran.stderr)
+    return (int(found[1]) / 1e6, ran.returncode, ran.stdout) if found else None
+
+
 def memory_of(command: list[str], words: list[str], path: str) -> int | None:
     """The greatest memory of one run in bytes, by GNU time; none where that is not installed.
 
@@ -115,8 +132,8 @@ def lifts_in(output: bytes) -> int | None:
 
 
 class Figures:
-    """What the runs of one command on one input gave. A plain command has the words of its task in it. Each run has to
-    end with one of the statuses."""
+    """What the runs of one command on one input gave: `values`, seconds or millions of instructions. A plain command
+    has the words of its task in it. Each run has to end with one of the statuses."""
 
     def __init__(self, name: str, command: list[str], statuses: tuple[int, ...] = (0,), plain: bool = False) -> None:
         self.name = name
@@ -125,7 +142,18 @@ class Figures:
         self.plain = plain
         self.output: bytes | None = None
         self.fault: str | None = None
-        self.times: list[float] = []
+        self.values: list[float] = []
+
+    def count(self, words: list[str], path: str) -> None:
+        """Counts the instructions of one run."""
+        made = counted(self.command, self.words(words), path)
+        if made is None:
+            self.fault = "not counted"
+        elif made[1] not in self.statuses:
+            self.fault = f"exit status {made[1]}"
+        else:
+            self.output = made[2]
+            self.values.append(made[0])
 
     def run(self, words: list[str], path: str, seconds: float) -> None:
         """One run more, unless one has failed; the first warms up and is not counted."""
@@ -139,7 +167,7 @@ class Figures:
         elif self.output is None:
             self.output = made[2]
         else:
-            self.times.append(made[0])
+            self.values.append(made[0])
 
     def words(self, words: list[str]) -> list[str]:
         """The words that follow the command. A plain command is given the name of a game alone."""
@@ -148,12 +176,14 @@ class Figures:
         return words[words.index("--game"):] if "--game" in words else []
 
     def median(self) -> float:
-        return statistics.median(self.times)
+        return statistics.median(self.values)
 
-    def line(self, words: list[str], path: str) -> str:
+    def line(self, words: list[str], path: str, is_counted: bool) -> str:
         """The figures as they are printed."""
         if self.fault:
             return f"    {self.name}: {self.fault}"
+        if is_counted:
+            return f"    {self.name}: {self.median():.1f} million instructions"
         seconds = self.median()
         memory = memory_of(self.command, self.words(words), path)
         lifts = lifts_in(self.output or b"")
@@ -169,14 +199,16 @@ class Figures:
 
 def compared(figures: list[Figures], words: list[str], path: str, options: argparse.Namespace) -> list[Figures]:
     """Runs the commands on one input turn by turn, and prints their figures. Their figures, if none has failed."""
-    for _ in range(options.runs + 1):
+    for _ in range(0 if options.instructions else options.runs + 1):
         for one in figures:
             one.run(words, path, options.seconds)
+    for one in figures if options.instructions else []:
+        one.count(words, path)
     wanted = figures[0].output
     for one in figures:
         if one.output is not None and wanted is not None and decided(words, one.output) != decided(words, wanted):
             one.fault = "DIFFERS"
-        say(one.line(words, path))
+        say(one.line(words, path, options.instructions))
     return [one for one in figures if not one.fault]
 
 
@@ -282,34 +314,52 @@ def mean_of(ratios: list[float]) -> float:
     return math.exp(statistics.fmean(map(math.log, ratios)))
 
 
-def in_markdown(table: list[TableRow]) -> str:
-    """The table by tasks, with the geometric mean and the worst of each ratio below."""
+def in_markdown(table: list[TableRow], is_counted: bool) -> str:
+    """The rows as tables, one for the families of each kind, with the mean and the worst of each ratio below."""
     lines = []
-    ratios = ratios_of(table)
-    for task in dict.fromkeys(row[1] for row in table):
-        rows = [row for row in table if row[1] == task]
-        names = list(dict.fromkeys(one.name for row in rows for one in row[4]))
-        heads = ["family", "MB", "the loop, s"]
-        for name in names:
-            heads += [f"{name}, ms"] + [f"/ {name}"] * (name != names[0])
-        lines += [f"`{task}`:", "", f"| {' | '.join(heads)} |", "|---" * len(heads) + "|"]
-        for family, _, size, loop, figures in rows:
-            cells = [family, f"{size / 1e6:.1f}", f"{loop:.3f}"]
-            by_name = {one.name: one for one in figures}
-            for name in names:
-                one = by_name.get(name)
-                cells.append("-" if one is None else one.fault or f"{one.median() * 1000:.1f}")
-                if name != names[0]:
-                    is_ratio = one is not None and not one.fault and not figures[0].fault
-                    cells.append(f"{figures[0].median() / one.median():.2f}" if one and is_ratio else "-")
-            lines.append(f"| {' | '.join(cells)} |")
-        for name in names[1:]:
-            of_task = ratios.get((task, name), [])
-            if of_task:
-                lines += ["", f"`{task}` took {mean_of(of_task):.2f} times as long as {name} in the geometric mean, "
-                              f"and {max(of_task):.2f} times at worst."]
-        lines.append("")
+    for kind in ([*FAMILIES], [*AUTOMATA], [*EXPLAINED], [*COMPARED]):
+        rows = [row for row in table if row[0] in kind]
+        if rows:
+            lines += [*table_of(rows, is_counted), "", *sentences_of(rows), ""]
     return "\n".join(lines)
+
+
+def table_of(rows: list[TableRow], is_counted: bool) -> list[str]:
+    """The lines of a table: of a family the size of its text, the longest loop, and for each task the first command's
+    figure, with its ratio to each other command."""
+    tasks = list(dict.fromkeys(row[1] for row in rows))
+    names = {task: list(dict.fromkeys(one.name for row in rows if row[1] == task for one in row[4])) for task in tasks}
+    heads = ["family", "MB"] + ["the loop, ms"] * (not is_counted)
+    for task in tasks:
+        heads += [f"`{task}`", *(f"/ {name}" for name in names[task][1:])]
+    lines = [f"| {' | '.join(heads)} |", "|---" * len(heads) + "|"]
+    for family in dict.fromkeys(row[0] for row in rows):
+        own = {row[1]: row for row in rows if row[0] == family}
+        cells = [family, f"{max(row[2] for row in own.values()) / 1e6:.1f}"]
+        cells += [f"{1000 * max(row[3] for row in own.values()):.0f}"] * (not is_counted)
+        for task in tasks:
+            cells += cells_of(own[task][4] if task in own else [], names[task], is_counted)
+        lines.append(f"| {' | '.join(cells)} |")
+    return lines
+
+
+def cells_of(figures: list[Figures], names: list[str], is_counted: bool) -> list[str]:
+    """The first command's figure, and its ratios to those of the names that follow; a dash for what is not there."""
+    by_name = {one.name: one for one in figures}
+    first = by_name.get(names[0])
+    if first is None or first.fault:
+        return [first.fault if first and first.fault else "-"] + ["-"] * (len(names) - 1)
+    cells = [f"{first.median() * (1 if is_counted else 1000):.1f}"]
+    for name in names[1:]:
+        other = by_name.get(name)
+        cells.append("-" if other is None else other.fault or f"{first.median() / other.median():.2f}")
+    return cells
+
+
+def sentences_of(rows: list[TableRow]) -> list[str]:
+    """What is to be said of each ratio."""
+    return [f"`{task}` / {name}: {mean_of(ratios):.2f} in the geometric mean, {max(ratios):.2f} at worst."
+            for (task, name), ratios in ratios_of(rows).items()]
 
 
 def plain_commands(pairs: list[str], parser: argparse.ArgumentParser) -> dict[str, list[str]]:
@@ -344,7 +394,8 @@ def asked() -> argparse.Namespace:
     parser.add_argument("--against", action="append", default=[], metavar="NAME=COMMAND", help="another command")
     parser.add_argument("--plain", action="append", default=[], metavar="TASK=COMMAND",
                         help="a command for one task alone, called as it stands; may be given again")
-    parser.add_argument("--table", action="store_true", help="write a table in Markdown, and all else beside it")
+    parser.add_argument("--table", action="store_true", help="write tables in Markdown, and all else beside them")
+    parser.add_argument("--instructions", action="store_true", help="count instructions, by callgrind of valgrind")
     parser.add_argument("--omega", help="the command that is measured, if not the built program")
     parser.add_argument("--runs", type=int, default=5, help="runs of which the median is taken")
     parser.add_argument("--seconds", type=float, default=120, help="the most time for one run")
@@ -358,6 +409,8 @@ def asked() -> argparse.Namespace:
         parser.error("the program is not built: ./omega --help builds it")
     if not all("=" in pair for pair in options.against):
         parser.error("--against takes NAME=COMMAND")
+    if options.instructions and not shutil.which(COUNTING[0]):
+        parser.error("instructions are counted by valgrind, which is not in PATH")
     options.plain = plain_commands(options.plain, parser)
     return options
 
@@ -385,7 +438,7 @@ def main() -> int:
             say(f"{family}: {len(text):,} bytes, {size}")
             for words in tasks:
                 task = " ".join(words)
-                figures = figures_of(task, commands, options.plain)
+                figures = figures_of(task, commands, {} if HARD in kinds.split() else options.plain)
                 if words == VERIFY:
                     well = verified(family, file.name, figures, options, table)
                 else:
@@ -398,7 +451,7 @@ def main() -> int:
     for (task, name), found in ratios_of(table).items():
         say(f"omega / {name}, {task}: {mean_of(found):.2f} in the geometric mean, {max(found):.2f} at worst")
     if options.table:
-        print(in_markdown(table), end="")
+        print(in_markdown(table, options.instructions), end="")
     return 0 if all_well else 1
 
 

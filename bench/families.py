@@ -242,6 +242,55 @@ def sparse(nodes: int, seed: int = DEFAULT_SEED) -> str:
     return text_of(rows)
 
 
+def distinct(nodes: int, seed: int) -> str:
+    """Priority v at node v, owners and two successors a node drawn evenly: the hard case of searches."""
+    draw = random.Random(seed)
+    return text_of((v, v, draw.randrange(2), [draw.randrange(nodes) for _ in range(2)]) for v in range(nodes))
+
+
+def near(nodes: int, width: int, seed: int = DEFAULT_SEED) -> str:
+    """Priority v at node v, which has up to three successors at most so many nodes away."""
+    draw = random.Random(seed)
+    return text_of(
+        (v, v, draw.randrange(2),
+         [(v + draw.randrange(2 * width) - width) % nodes for _ in range(1 + draw.randrange(3))])
+        for v in range(nodes)
+    )
+
+
+def rings(levels: int) -> str:
+    """A ring of levels with two loops of two nodes each, whose priorities rise around the ring: the recursive algorithm
+    is exponential."""
+    rows: list[Row] = []
+    for i in range(levels):
+        at, owner = 4 * i, i % 2
+        rows += [
+            (at, (i + 1) % 2, owner, [at + 1, at + 2]),
+            (at + 1, i + 1, owner, [at + 3, 4 * ((i + 1) % levels)]),
+            (at + 2, 0, 1 - owner, [at]),
+            (at + 3, 0, 1 - owner, [at + 1]),
+        ]
+    return text_of(rows)
+
+
+def friedmann(levels: int) -> str:
+    """Ladders of five rails on which the recursive algorithm is exponential (Friedmann 2011)."""
+    owners: list[tuple[int, int, list[int]]] = []
+    rail = [levels * at for at in range(5)]
+    for i in range(1, levels + 1):
+        owners.append((1 - i % 2, 1 - i % 2, [rail[1] + i - 1, rail[3] + i - 1]))
+    for i in range(1, levels + 1):
+        owners.append((i % 2, 1 - i % 2, [i - 1] + [rail[2] + i] * (i < levels)))
+    for i in range(levels):
+        owners.append((3 * i + 5, 1 - i % 2, [rail[1] + i, rail[3] + i]))
+    for i in range(levels):
+        beside = [rail[3] + i - 1] * (i > 0) + [rail[3] + i + 1] * (i + 1 < levels)
+        owners.append((3 * i + 4, i % 2, [rail[4] + i, *beside]))
+    for i in range(levels):
+        owners.append((3 * i + 3, 1 - i % 2, [rail[3] + i] + [rail[1] + i - 1] * (i > 0)))
+    return text_of((v, priority, owner, successors) for v, (priority, owner, successors) in enumerate(owners))
+
+
 def most_nodes(nodes: int = 1_048_576) -> str:
     """As many nodes as a game may have. Each leads to node 0: longer lists do not fit into the greatest text."""
     return text_of((v, 0, 0, [0]) for v in range(nodes))
@@ -304,6 +353,11 @@ FAMILIES = {
     "torus2": ("solve", lambda: torus(60, 60, 2), lambda: torus(240, 60, 2)),
     "torus3": ("solve", lambda: torus(20, 40, 3), lambda: torus(80, 40, 3)),
     "torus3-large": ("turns", lambda: torus(40, 40, 3), lambda: torus(80, 80, 3)),
+    "distinct": ("hard", lambda: distinct(4000, 1), lambda: distinct(40000, 1)),
+    "distinct-other": ("hard", lambda: distinct(4000, 3), lambda: distinct(40000, 3)),
+    "near": ("hard", lambda: near(10000, 20), lambda: near(100000, 20)),
+    "rings": ("hard", lambda: rings(1000), lambda: rings(10000)),
+    "friedmann": ("hard", lambda: friedmann(1000), lambda: friedmann(10000)),
     "sparse": ("read", lambda: sparse(40000), lambda: sparse(320000)),
     "most-nodes": ("read", lambda: most_nodes(131072), lambda: most_nodes()),
     "most-bytes": ("solve read", lambda: most_bytes(2_097_152), lambda: most_bytes()),
