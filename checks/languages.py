@@ -24,6 +24,8 @@ HEADER = 'HOA: v1 States: %d Start: 0 AP: 1 "a" acc-name: %s Acceptance: %s --BO
 # The words with a again and again, those with a at last for ever, and all that begin with a.
 OFTEN = HEADER % (1, "Buchi", "1 Inf(0)", "State: 0 [0] 0 {0} [!0] 0")
 AT_LAST = HEADER % (1, "co-Buchi", "1 Fin(0)", "State: 0 [0] 0 [!0] 0 {0}")
+# A specification whose acceptance is of no kind.
+UNKIND = AT_LAST.replace("co-Buchi", "controllable-AP: acc-name: Buchi").replace("acc-name: ", "", 1)
 FIRST = HEADER % (2, "all", "0 t", "State: 0 [0] 1 State: 1 [t] 1")
 CHOICE = HEADER % (2, "all", "0 t", "State: 0 [0] 1 State: 1 [t] 1 [0] 0")
 NAMED = (r'HOA: v1 name: "x AP: 0" States: 1 Start: 0 AP: 2 "b \"c\"" "d" acc-name: all Acceptance: 0 t '
@@ -117,7 +119,7 @@ def refusal_checks(omega: Any) -> Cases:
         ("a choice of the second", "contained", [good, choice], [0, verdict], (56, 2, 1)),
         ("a choice of the first", "equal", [choice, good], [0, verdict], (56, 1, 1)),
         ("universal branching", "meet", [branching, good], [], (41, None, None)),
-        ("no parity", "realize", [AT_LAST.replace("co-Buchi", "Buchi").encode()], [verdict], (40, 1, None)),
+        ("no parity", "realize", [UNKIND.encode()], [verdict], (40, 1, None)),
     ]
     for label, call, texts, more, wanted in refusals:
         yield f"{call}: {label}", partial(refusal_fault, omega, partial(given, call, texts, *more), wanted)

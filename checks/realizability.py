@@ -23,6 +23,11 @@ Held = frozenset[int]
 ITEM = b"controllable-AP:"
 
 
+def has_item(automaton: Automaton) -> bool:
+    """Whether the header says what the system controls."""
+    return any(name == ITEM for name, _ in automaton.said(b"unknown"))
+
+
 def subsets(numbers: Collection[int]) -> list[Held]:
     return [frozenset(held) for size in range(len(numbers) + 1) for held in itertools.combinations(numbers, size)]
 
@@ -124,7 +129,10 @@ def single(asked_of: Parted) -> Parted:
 
 
 def asked(automaton: Automaton) -> tuple[Parted, Parity]:
-    """What it is asked of whether it is realizable; refused by the first of 58, 41, 56 and 40 that applies."""
+    """What it is asked of whether it is realizable; refused by the first of 58, 41, 56 and 40 that applies. The item has
+    to be there."""
+    if not has_item(automaton):
+        raise Refused("58 Controllable")
     return single(parted(automaton)), parity_of(automaton)
 
 
@@ -316,7 +324,7 @@ def lacks(controller: Parted) -> list[tuple[int, Held]]:
 
 def clash_of_names(specification: Automaton, controller: Automaton) -> bool:
     """Whether both have an item, and one gives a name to the system that the other gives to the environment."""
-    if not any(name == ITEM for name, _ in specification.said(b"unknown")):
+    if not has_item(specification):
         return False
     ours, theirs = names_of(specification), names_of(controller)
     own = {ours[number] for number in controlled_of(specification)}

@@ -63,7 +63,7 @@ enum {
     OMEGA_TOO_LARGE = 55,            /* what would be made is over a limit of automata */
     OMEGA_NOT_DETERMINISTIC = 56,    /* two starts, or two edges of a state for one letter: `place` is the state */
     OMEGA_BAD_SHAPE = 57,            /* an entry of an array is wrong: `array` and `place` say which */
-    OMEGA_CONTROLLABLE = 58,         /* the item controllable-AP: is refused */
+    OMEGA_CONTROLLABLE = 58,         /* the item controllable-AP: is refused, or missing */
     OMEGA_MEMORY = 60                /* a request for memory was refused */
 };
 

@@ -14,7 +14,7 @@ use Rattle.omega_hoa_edges.specs.Determinism.{IsDeterministic}
 use Rattle.omega_lang_runs.specs.Words.{CanBeTaken, IsAccepted}
 use Rattle.omega_lang_word_laws.specs.NamedWords.{AcceptsNamed, NamedWord, part_of}
 use Rattle.omega_lang_word_laws.proofs.naming.Named.{accepted_same, own_place}
-use Rattle.omega_synth_controllers.specs.Controllable.{IsControlled}
+use Rattle.omega_synth_controllers.specs.Controllable.{IsControlled, IsStated, has_item}
 use Rattle.omega_synth_controllers.specs.Laws.{CounterStrategiesBeat}
 use Rattle.omega_synth_controllers.specs.Strategies.{Environment, System, is_controlled, joined, so_far, word_against, word_of}
 use Rattle.omega_synth_controllers.proofs.Letters.{found_listed, listed_found}
@@ -27,7 +27,7 @@ use Rattle.omega_io.specs.declared.exit.Exit.TheVariants.{Done, No}
 use Rattle.omega_answers_synth.specs.Decide.{IsVerdict}
 use Rattle.omega_synth_controllers.specs.Controllers.{HasCounterStrategy}
 use Rattle.omega_answers_synth.specs.Laws.{ControllersForExcludeCounterStrategies, YesExcludesUnrealizable}
-use Rattle.omega_answers_synth.specs.Parting.{AreAlike, IsParted, has_item}
+use Rattle.omega_answers_synth.specs.Parting.{AreAlike, IsParted}
 use Rattle.omega_answers_synth.proofs.ControllerStated.{controlled_one}
 use Rattle.omega_answers_synth.proofs.Exact.{done_controls}
 
@@ -165,7 +165,7 @@ controllers_for_exclude_counter_strategies realize beat specification controller
     })
 
 pub yes_excludes_unrealizable : AutomataAreOne → MeaningsAreAutomata → JudgementsAreExact → ControllersForExcludeCounterStrategies → YesExcludesUnrealizable
-yes_excludes_unrealizable one means exact excludes decided file input output line explain exit other specification answer verdict read item told unrealizable =
+yes_excludes_unrealizable one means exact excludes decided file input output line explain exit other specification answer verdict read told unrealizable =
     let same : answer.file ≡ specification = one file answer.file specification answer.file_read read in
     let also : verdict.automaton ≡ specification = one file verdict.automaton specification verdict.read read in
     let controller : Description = answer.input in
@@ -177,12 +177,12 @@ yes_excludes_unrealizable one means exact excludes decided file input output lin
     (done_controls explain controller right.controlled right.judgement (sym right.reply.0 ∙ told.0)) in
     let parted : IsParted specification controller right.controlled =
     subst (λ (s : Description). IsParted s controller right.controlled) same right.parted in
-    let stated : IsControlled specification verdict.holds.controlled =
-    subst (λ (s : Description). IsControlled s verdict.holds.controlled) also verdict.holds.stated in
+    let stated : IsStated specification verdict.holds.controlled =
+    subst (λ (s : Description). IsStated s verdict.holds.controlled) also verdict.holds.stated in
     let deterministic : IsDeterministic specification = subst IsDeterministic also verdict.holds.judgeable.deterministic in
     let counter : HasCounterStrategy specification verdict.holds.controlled =
     subst (λ (s : Description). HasCounterStrategy s verdict.holds.controlled) also
     (subst (λ (e : Exit). IsVerdict verdict.automaton verdict.holds.controlled e line) unrealizable verdict.holds.verdict).0 in
     excludes specification controller right.controlled verdict.holds.controlled counter.0 counter.1
     (means read.value.raw specification read.value.means) deterministic (means answer.input_read.value.raw controller answer.input_read.value.means)
-    right.judged.readable.all parted item for stated counter.2
+    right.judged.readable.all parted stated.item for stated.controlled counter.2

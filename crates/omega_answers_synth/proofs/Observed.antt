@@ -8,7 +8,7 @@ use Rattle.omega_text.specs.Cases.{or_memory}
 use Rattle.omega_solve.specs.budget.Observing.{IsObserved, refusal_in}
 use Rattle.omega_solve.specs.declared.budget.observing.Progress.{Progress}
 use Rattle.omega_solve.proofs.within_budget.Observed.{made_refused, observed_after}
-use Rattle.omega_synth_controllers.specs.Controllable.{IsControlled, IsMisstated}
+use Rattle.omega_synth_controllers.specs.Controllable.{IsMisstated, IsStated}
 use Rattle.omega_hoa.specs.Alone.{IsAutomatonText}
 use Rattle.omega_game_values.specs.Game.{Node}
 use Rattle.omega_game_values.specs.declared.player.Player.{Player}
@@ -28,7 +28,7 @@ unasked_spares text (inr item) = item_spares _ item.holds
 
 -- runs for an automaton are runs for its text
 pub of_text : (text : List ℕ) (automaton : Description) (controlled : List ℕ) (refusal : Option Refusal) (nodes : List Node) (players : List Player)
-    → IsAutomatonText text automaton → IsControlled automaton controlled → LiftsAutomaton automaton controlled refusal nodes players
+    → IsAutomatonText text automaton → IsStated automaton controlled → LiftsAutomaton automaton controlled refusal nodes players
     → LiftsText text refusal nodes players
 of_text text automaton controlled refusal nodes players read stated lifted = record {
   automaton = automaton;

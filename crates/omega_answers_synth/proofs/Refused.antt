@@ -3,7 +3,7 @@ use Rattle.std.proofs.Common.{List, ℕ, inl, inr}
 use Rattle.omega_text.specs.Cases.{or_memory}
 use Rattle.omega_text.specs.declared.refusal.Refusal.{Refusal}
 use Rattle.omega_hoa_automaton.specs.Automaton.{Description}
-use Rattle.omega_synth_controllers.specs.Controllable.{IsControlled}
+use Rattle.omega_synth_controllers.specs.Controllable.{IsStated}
 use Rattle.omega_hoa.specs.Alone.{IsAutomatonText}
 use Rattle.omega_synth_realize.specs.Gaming.{IsUngamed}
 use Rattle.omega_synth_realize.specs.Refusing.{IsUnrealized}
@@ -25,7 +25,7 @@ unasked_refused text budget refusal h = memory_or (IsUnasked text) (IsRealizeRef
 
 -- and if the question is refused
 pub question_refused : (text : List ℕ) (automaton : Description) (controlled : List ℕ) (budget : ℕ) (refusal : Refusal)
-    → IsAutomatonText text automaton → IsControlled automaton controlled → IsUnrealized automaton controlled budget refusal
+    → IsAutomatonText text automaton → IsStated automaton controlled → IsUnrealized automaton controlled budget refusal
     → or_memory (IsRealizeRefusal text budget) refusal
 question_refused text automaton controlled budget refusal read stated refused =
     automaton_refused (λ a other. IsUndecided a budget other) text automaton read refusal
@@ -41,7 +41,7 @@ unasked_ungamed text refusal h = memory_or (IsUnasked text) (IsGameRefusal text)
     refusal h
 
 pub question_ungamed : (text : List ℕ) (automaton : Description) (controlled : List ℕ) (refusal : Refusal)
-    → IsAutomatonText text automaton → IsControlled automaton controlled → IsUngamed automaton controlled refusal
+    → IsAutomatonText text automaton → IsStated automaton controlled → IsUngamed automaton controlled refusal
     → or_memory (IsGameRefusal text) refusal
 question_ungamed text automaton controlled refusal read stated refused =
     automaton_refused IsUngamedAutomaton text automaton read refusal

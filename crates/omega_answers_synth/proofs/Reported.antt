@@ -1,13 +1,11 @@
 -- How refusals of two automata are reported, and which text they are about.
 use Rattle.std.proofs.Common.{◌≡◌, inl, inr, List, ℕ, true, Some, refl, sym, ap, subst, ◌∙◌}
-use Rattle.std.specs.List.{list_any}
 use Rattle.omega_text.specs.declared.refusal.Refusal.{Refusal}
 use Rattle.omega_text.specs.declared.refusal.Refusal.TheVariants.{Automaton, Game, Io, Memory, Task, Text}
 use Rattle.omega_text.specs.declared.refusal.task.TaskFault.{TaskFault}
 use Rattle.omega_text.specs.declared.refusal.task.TaskFault.TheVariants.{Controllable}
-use Rattle.omega_hoa_automaton.specs.declared.header.Header.{Header}
 use Rattle.omega_hoa_automaton.specs.Automaton.{Description}
-use Rattle.omega_synth_controllers.specs.Controllable.{HasControlled, IsControlled, IsMisstated, is_controllable_item}
+use Rattle.omega_synth_controllers.specs.Controllable.{HasControlled, IsControlled, IsMisstated, has_item}
 use Rattle.omega_synth_check.specs.Refusing.{IsJudgeRefusal}
 use Rattle.omega_io.specs.Refused.{about}
 use Rattle.omega_io.specs.declared.refused.Refused.{Refused}
@@ -43,19 +41,19 @@ module _ (specification controller : Description) where
       go Io h = absurd h
 
   -- the two items differ
-  pub unlike_reported : (stated controlled : List ℕ) (names own_names : List (List ℕ)) (one other : List ℕ) (headers : List Header)
+  pub unlike_reported : (stated controlled : List ℕ) (names own_names : List (List ℕ)) (one other : List ℕ)
       → IsControlled specification stated → IsControlled controller controlled
-      → names ≡ specification.propositions → own_names ≡ controller.propositions → one ≡ stated → other ≡ controlled → headers ≡ specification.unknown
-      → list_any is_controllable_item headers ≡ true → ¬ AreAlike names own_names one other
+      → names ≡ specification.propositions → own_names ≡ controller.propositions → one ≡ stated → other ≡ controlled
+      → has_item specification ≡ true → ¬ AreAlike names own_names one other
       → (reported : Refused) → reported ≡ about Input (Task Controllable) → RefusesController specification controller reported
-  unlike_reported stated controlled names own_names one other headers is_stated is_controlled same own_same one_is other_is headers_are item unlike reported is =
+  unlike_reported stated controlled names own_names one other is_stated is_controlled same own_same one_is other_is item unlike reported is =
       let apart : ¬ AreAlike specification.propositions controller.propositions stated controlled =
       subst (λ (ns : List (List ℕ)). ¬ AreAlike ns controller.propositions stated controlled) same
       (subst (λ (ns : List (List ℕ)). ¬ AreAlike names ns stated controlled) own_same
       (subst (λ (ns : List ℕ). ¬ AreAlike names own_names ns controlled) one_is
       (subst (λ (ns : List ℕ). ¬ AreAlike names own_names one ns) other_is unlike))) in
       subst (RefusesController specification controller) (sym is)
-      (inr (parted_unlike stated controlled is_stated is_controlled (ap (list_any is_controllable_item) (sym headers_are) ∙ item) apart))
+      (inr (parted_unlike stated controlled is_stated is_controlled item apart))
 
   -- the judge refuses
   pub judge_refused : (controlled : List ℕ) → IsParted specification controller controlled → (refusal : Refusal) → IsJudgeRefusal specification controller controlled refusal

@@ -75,7 +75,7 @@ pub realize_answers_are_exact : AutomataAreOne → MeaningsAreAutomata → Contr
 realize_answers_are_exact one means realize beat apart decided text output exit a controlled answer read stated =
     let same : answer.automaton ≡ a = one text answer.automaton a answer.read read in
     let numbers : answer.holds.controlled ≡ controlled =
-    controlled_one a answer.holds.controlled controlled (subst (λ (d : Description). IsControlled d answer.holds.controlled) same answer.holds.stated) stated in
+    controlled_one a answer.holds.controlled controlled (subst (λ (d : Description). IsControlled d answer.holds.controlled) same answer.holds.stated.controlled) stated in
     let deterministic : IsDeterministic a = subst IsDeterministic same answer.holds.judgeable.deterministic in
     verdict_tells decided realize beat apart a controlled (means read.value.raw a read.value.means) deterministic exit output
     (subst (λ (d : Description). IsVerdict d controlled exit output) same
@@ -85,7 +85,7 @@ pub winner_answers_are_exact : AutomataAreOne → MeaningsAreAutomata → Contro
 winner_answers_are_exact one means realize beat apart decided text output exit a controlled answer read stated =
     let same : answer.automaton ≡ a = one text answer.automaton a answer.read read in
     let numbers : answer.holds.controlled ≡ controlled =
-    controlled_one a answer.holds.controlled controlled (subst (λ (d : Description). IsControlled d answer.holds.controlled) same answer.holds.stated) stated in
+    controlled_one a answer.holds.controlled controlled (subst (λ (d : Description). IsControlled d answer.holds.controlled) same answer.holds.stated.controlled) stated in
     let deterministic : IsDeterministic a = subst IsDeterministic same answer.holds.judgeable.deterministic in
     winner_tells decided realize beat apart a controlled (means read.value.raw a read.value.means) deterministic exit output
     (subst (λ (d : Description). IsWinner d controlled exit output) same

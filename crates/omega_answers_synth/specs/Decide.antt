@@ -1,7 +1,7 @@
 -- The answer of `realize` for the text of one automaton: whether it is realizable.
 use Rattle.std.specs.Prelude.{◌≡◌, Bool, List, ℕ, codes}
 use Rattle.omega_hoa_automaton.specs.Automaton.{Description}
-use Rattle.omega_synth_controllers.specs.Controllable.{IsControlled}
+use Rattle.omega_synth_controllers.specs.Controllable.{IsStated}
 use Rattle.omega_synth_controllers.specs.Controllers.{HasController, HasCounterStrategy}
 use Rattle.omega_io.specs.declared.exit.Exit.{Exit}
 use Rattle.omega_io.specs.declared.exit.Exit.TheVariants.{Done, No}
@@ -18,7 +18,7 @@ IsVerdict a controlled No output =
 -- `controllable-AP:` lists
 pub record IsDecision (a : Description) (exit : Exit) (output : List ℕ) : Type 0 where
   pub controlled : List ℕ
-  pub stated : IsControlled a controlled
+  pub stated : IsStated a controlled
   pub judgeable : IsJudgeable a
   pub verdict : IsVerdict a controlled exit output
 

@@ -3,7 +3,7 @@
 use Rattle.std.specs.Prelude.{◌≡◌, ◌⊎◌, List, ℕ}
 use Rattle.omega_text.specs.declared.refusal.Refusal.{Refusal}
 use Rattle.omega_hoa_automaton.specs.Automaton.{Description}
-use Rattle.omega_synth_controllers.specs.Controllable.{HasControlled, IsControlled, IsMisstated}
+use Rattle.omega_synth_controllers.specs.Controllable.{HasStated, IsMisstated, IsStated}
 use Rattle.omega_game_values.specs.Game.{Node}
 use Rattle.omega_pg.specs.game.Canonical.{canonical_game}
 use Rattle.omega_answers.specs.OneAutomaton.{IsRefusalOfText, OfAutomaton}
@@ -12,7 +12,7 @@ use Rattle.omega_synth_realize.specs.Gaming.{IsRealizabilityGame, IsUngamed}
 -- the game of an automaton, where the system controls the propositions that its item `controllable-AP:` lists
 pub record IsStatedGame (a : Description) (nodes : List Node) : Type 0 where
   pub controlled : List ℕ
-  pub stated : IsControlled a controlled
+  pub stated : IsStated a controlled
   pub game : IsRealizabilityGame a controlled nodes
 
 -- the canonical text of that game
@@ -28,12 +28,12 @@ IsGameAnswer text output = OfAutomaton (λ a. IsGameText a output) text
 -- the item lists propositions, and the game is refused
 pub record RefusesGame (a : Description) (refusal : Refusal) : Type 0 where
   pub controlled : List ℕ
-  pub stated : IsControlled a controlled
+  pub stated : IsStated a controlled
   pub refused : IsUngamed a controlled refusal
 
 -- the refusal of an automaton: that of its item, or else that of the game
 abbrev pub IsUngamedAutomaton : Description → Refusal → Type 0
-IsUngamedAutomaton a refusal = IsMisstated (HasControlled a) refusal ⊎ RefusesGame a refusal
+IsUngamedAutomaton a refusal = IsMisstated (HasStated a) refusal ⊎ RefusesGame a refusal
 
 -- the refusal of `realize --game`: that of the text, or else that of its automaton
 abbrev pub IsGameRefusal : List ℕ → Refusal → Type 0

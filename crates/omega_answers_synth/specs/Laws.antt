@@ -2,7 +2,7 @@
 -- called a controller, and what a letter says.
 use Rattle.std.specs.Prelude.{◌≡◌, ◌↔◌, ℕ, ◌<◌, Bool, true, List, Contains, None, codes, length}
 use Rattle.omega_hoa_automaton.specs.Automaton.{Description, IsAutomaton}
-use Rattle.omega_synth_controllers.specs.Controllable.{IsControlled}
+use Rattle.omega_synth_controllers.specs.Controllable.{IsControlled, has_item}
 use Rattle.omega_synth_controllers.specs.Strategies.{Beats, Environment, Realizes, System}
 use Rattle.omega_synth_check.specs.Judging.{IsControllerFor}
 use Rattle.omega_synth_check.specs.Laws.{IsKeptPart}
@@ -21,7 +21,7 @@ use Rattle.omega_text.specs.Omniscience.{LimitedPrincipleOfOmniscience}
 use Rattle.omega_io.specs.Answer.{IsYes}
 use Rattle.omega_answers_synth.specs.Decide.{IsDecisionAnswer}
 use Rattle.omega_answers_synth.specs.Letter.{letter_text}
-use Rattle.omega_answers_synth.specs.Parting.{IsParted, has_item}
+use Rattle.omega_answers_synth.specs.Parting.{IsParted}
 use Rattle.omega_answers_synth.specs.Verify.{IsControllerAnswer}
 use Rattle.omega_answers_synth.specs.Winner.{IsWinnerAnswer}
 
@@ -77,14 +77,14 @@ ControllersForExcludeCounterStrategies =
     → IsControllerFor specification controller controlled → IsControlled specification stated
     → IsCounterStrategy specification stated kept letters → ⊥
 
--- so, by the limited principle of omniscience, `yes` is written of no automaton for a specification with the item of
--- which `unrealizable` is written
+-- so, by the limited principle of omniscience, `yes` is written of no automaton for a specification of which
+-- `unrealizable` is written
 abbrev pub YesExcludesUnrealizable : Type 0
 YesExcludesUnrealizable = LimitedPrincipleOfOmniscience
     → (file input output line : List ℕ) (explain : Bool) (exit other : Exit)
     (specification : Description) → IsControllerAnswer file input explain exit output
     → IsDecisionAnswer file other line → IsAutomatonText file specification
-    → has_item specification ≡ true → IsYes exit output → other ≡ No → ⊥
+    → IsYes exit output → other ≡ No → ⊥
 
 -- the environment gives a letter: its propositions hold as the letter says
 abbrev pub GivesLetter : Description → (controlled letter : List ℕ) → (ℕ → Bool) → Type 0

@@ -2,7 +2,7 @@
 use Rattle.std.specs.Prelude.{ℕ, List, Option}
 use Rattle.omega_text.specs.declared.refusal.Refusal.{Refusal}
 use Rattle.omega_hoa_automaton.specs.Automaton.{Description}
-use Rattle.omega_synth_controllers.specs.Controllable.{IsControlled}
+use Rattle.omega_synth_controllers.specs.Controllable.{IsStated}
 use Rattle.omega_hoa.specs.Alone.{IsAutomatonText}
 use Rattle.omega_game_values.specs.Game.{Node}
 use Rattle.omega_game_values.specs.declared.player.Player.{Player}
@@ -12,7 +12,7 @@ use Rattle.omega_synth_realize.specs.Lifting.{LiftsAutomaton}
 pub record LiftsStated (a : Description) (refusal : Option Refusal) (nodes : List Node)
     (players : List Player) : Type 0 where
   pub controlled : List ℕ
-  pub stated : IsControlled a controlled
+  pub stated : IsStated a controlled
   pub lifts : LiftsAutomaton a controlled refusal nodes players
 
 -- lifts that of the automaton of the text

@@ -1,14 +1,9 @@
 -- Which propositions the system controls in a controller for a specification: those that the controller's item
 -- `controllable-AP:` lists. If the specification has the item too, it has to say the same of the names that both have:
 -- else the controller would control what the specification leaves to the environment.
-use Rattle.std.specs.Prelude.{◌≡◌, ◌↔◌, ℕ, Bool, true, List, Contains, Some, slice_get}
-use Rattle.std.specs.List.{list_any}
+use Rattle.std.specs.Prelude.{◌≡◌, ◌↔◌, ℕ, true, List, Contains, Some, slice_get}
 use Rattle.omega_hoa_automaton.specs.Automaton.{Description}
-use Rattle.omega_synth_controllers.specs.Controllable.{IsControlled, is_controllable_item}
-
--- whether an automaton has the item
-abbrev pub has_item : Description → Bool
-has_item a = list_any is_controllable_item a.unknown
+use Rattle.omega_synth_controllers.specs.Controllable.{IsControlled, has_item}
 
 -- the system controls propositions of the two that have one name both in the one and in the other, or in neither
 abbrev pub AreAlike : (ones others : List (List ℕ)) → (controlled also_controlled : List ℕ) → Type 0

@@ -7,7 +7,7 @@ use Rattle.omega_text.specs.declared.refusal.task.TaskFault.TheVariants.{Control
 use Rattle.omega_text.specs.declared.refusal.task.TaskFault.TheVariants.{NotParity, UniversalBranch}
 use Rattle.omega_hoa_automaton.specs.Automaton.{Description}
 use Rattle.omega_hoa_automaton.specs.Branching.{has_universal_branching}
-use Rattle.omega_synth_controllers.specs.Controllable.{HasControlled, IsControlled}
+use Rattle.omega_synth_controllers.specs.Controllable.{HasControlled, IsControlled, has_item}
 use Rattle.omega_synth_check.specs.Judging.{IsJudgement}
 use Rattle.omega_synth_check.specs.Refusing.{AreJudged, IsJudgeRefusal}
 use Rattle.omega_synth_check.specs.declared.judgement.Judgement.{Judgement}
@@ -18,7 +18,7 @@ use Rattle.omega_io.specs.declared.refused.Which.{Which}
 use Rattle.omega_io.specs.declared.refused.Which.TheVariants.{File, Input}
 use Rattle.omega_io.specs.Answer.{IsReply}
 use Rattle.omega_answers.specs.TwoAutomata.{IsRefusalOfTexts, OfAutomata}
-use Rattle.omega_answers_synth.specs.Parting.{AreAlike, IsParted, has_item}
+use Rattle.omega_answers_synth.specs.Parting.{AreAlike, IsParted}
 use Rattle.omega_answers_synth.specs.Reason.{judgement_answer}
 
 -- what is written of a specification and an automaton is right: `yes` if it is a controller for the specification, and

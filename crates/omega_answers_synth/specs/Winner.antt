@@ -1,7 +1,7 @@
 -- The answer of `realize --controller` for the text of one automaton: the winner's automaton.
 use Rattle.std.specs.Prelude.{List, ℕ}
 use Rattle.omega_hoa_automaton.specs.Automaton.{Description}
-use Rattle.omega_synth_controllers.specs.Controllable.{IsControlled}
+use Rattle.omega_synth_controllers.specs.Controllable.{IsStated}
 use Rattle.omega_synth_controllers.specs.Controllers.{IsController, IsCounterStrategy}
 use Rattle.omega_io.specs.declared.exit.Exit.{Exit}
 use Rattle.omega_io.specs.declared.exit.Exit.TheVariants.{Done, No}
@@ -33,7 +33,7 @@ IsWinner a controlled No output = IsCounterStrategyWritten a controlled output
 -- `controllable-AP:` lists
 pub record IsWinning (a : Description) (exit : Exit) (output : List ℕ) : Type 0 where
   pub controlled : List ℕ
-  pub stated : IsControlled a controlled
+  pub stated : IsStated a controlled
   pub judgeable : IsJudgeable a
   pub winner : IsWinner a controlled exit output
 

@@ -1,16 +1,14 @@
 //! Which propositions the system controls.
 
 ghost use Rattle.std.specs.Prelude.{◌≡◌, ◌↔◌, IfErr, IfOk, IsTrue};
-ghost use Rattle.std.specs.List.{list_any};
 ghost use Rattle.omega_graph.specs.Graph.{listed};
-ghost use Rattle.omega_synth_controllers.specs.Controllable.{is_controllable_item};
 ghost use Rattle.omega_answers_synth.specs.Parting.{AreAlike, IsParted};
 ghost use Rattle.omega_answers_synth.specs.private.Alike.{IsAlike, is_unlike};
 ghost use Rattle.omega_answers_synth.specs.Verify.{RefusesController};
 
-use omega_hoa_automaton::{Automaton, Header, Refusal};
+use omega_hoa_automaton::{Automaton, Refusal};
 use omega_io::{Refused, Which};
-use omega_synth_controllers::controlled_propositions;
+use omega_synth_controllers::{controlled_propositions, has_controllable_item};
 use omega_text::{ByteString, Numbers, TaskFault};
 use std::alloc::Global;
 
@@ -37,27 +35,13 @@ pub(crate) fn controlled_numbers(
     };
     let names = specification.propositions();
     let own_names = controller.propositions();
-    if has_item(specification.unknown())
+    if has_controllable_item(specification)
         && !are_alike(names, own_names, stated.as_slice(), controlled.as_slice())
     {
         let refusal = Refusal::Task(TaskFault::Controllable);
         return Err(Refused::of(Which::Input, refusal));
     }
     Ok(controlled)
-}
-
-/// Whether the item `controllable-AP:` is among `headers`.
-fn has_item(headers: &[Header]) -> bool
-    ensures { result ≡ list_any is_controllable_item headers.now }
-{
-    headers.iter().any(|header| is_controllable(header))
-}
-
-/// Whether the name of `header` is `controllable-AP`.
-fn is_controllable(header: &Header) -> bool
-    ensures { result ≡ is_controllable_item header.now }
-{
-    header.name.as_slice() == b"controllable-AP".as_slice()
 }
 
 /// Whether the system controls propositions of one name both among `ones` and among `others`, or in neither. It

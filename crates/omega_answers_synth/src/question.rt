@@ -4,7 +4,7 @@ ghost use Rattle.omega_answers_synth.specs.private.Question.{IsQuestion, IsUnask
 
 use omega_hoa::read_one;
 use omega_hoa_automaton::{Automaton, Refusal};
-use omega_synth_controllers::controlled_propositions;
+use omega_synth_controllers::stated_propositions;
 use omega_text::Numbers;
 use std::alloc::Global;
 
@@ -21,7 +21,7 @@ pub(crate) fn question_in(alloc: Global, text: &[u8]) -> Result<Question, Refusa
     ensures refused { IfErr result (or_memory (IsUnasked text.now)) }
 {
     let automaton = read_one(alloc, text)?;
-    let controlled = controlled_propositions(alloc, &automaton)?;
+    let controlled = stated_propositions(alloc, &automaton)?;
     Ok(Question {
         automaton,
         controlled,

@@ -65,9 +65,9 @@ far, and the bound or, if it is less, the budget.
 --budget and --progress go with --lift only, and --game goes neither with --controller nor with --lift.
 
 Faults of the text come first; `omega check --help` lists them. A text with --ABORT--, with no automaton
-or with several is not one automaton, and is refused as 3 Syntax. If `controllable-AP:` stands twice, or
-lists a number twice or one that no proposition has, the refusal is 58 Controllable. Then these come, in
-this order:
+or with several is not one automaton, and is refused as 3 Syntax. If `controllable-AP:` is missing or
+stands twice, or lists a number twice or one that no proposition has, the refusal is 58 Controllable. Then
+these come, in this order:
 
 41 UniversalBranch: a start or an edge that lists several states joined by &
 56 NotDeterministic: several starts, or two edges of a state that can be taken at one letter

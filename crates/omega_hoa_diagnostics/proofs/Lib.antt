@@ -11,5 +11,5 @@ pub mod reading
 pub mod told
 pub mod Before
 pub mod Passing
-pub mod ChoiceTexts
+pub mod LinesOfTexts
 pub mod ChoicesTold

@@ -3,11 +3,11 @@
 use Rattle.std.specs.Prelude.{◌≡◌, ◌⊎◌, ℕ, ◌+◌, ◌<◌, ◌≤◌, List, [], ◌++◌, codes, decimal, length}
 use Rattle.omega_text.specs.declared.refusal.task.TaskFault.{TaskFault}
 use Rattle.omega_hoa_automaton.specs.Automaton.{Description}
-use Rattle.omega_hoa.specs.Alone.{IsAutomatonText}
 use Rattle.omega_hoa_edges.specs.Determinism.{AreExclusiveBelow}
 use Rattle.omega_hoa_edges.specs.AutomatonLabels.{labels_at}
 use Rattle.omega_hoa_edges.specs.Refusing.{IsFirstClash, IsFirstUndecided}
 use Rattle.omega_hoa_diagnostics.specs.Choices.{AreAllPassedOver, IsFirstChoice, edges_before}
+use Rattle.omega_hoa_diagnostics.specs.LinesOfTexts.{IsLineOfText}
 
 -- the line about the count of starts
 abbrev pub starts_line : ℕ → List ℕ
@@ -48,7 +48,6 @@ IsChoiceLine a line =
     ((1 < length a.starts) × (line ≡ starts_line (length a.starts)))
     ⊎ ((length a.starts ≤ 1) × (TellsChoice a line ⊎ ((line ≡ []) × HasNoChoiceToTell a)))
 
--- the line for a text: that for its automaton, or no line if the bytes are no text of one automaton
-pub record IsChoiceCause (text line : List ℕ) : Type 0 where
-  pub automaton : (a : Description) → IsAutomatonText text a → IsChoiceLine a line
-  pub none : ((a : Description) → IsAutomatonText text a → ⊥) → line ≡ []
+-- the line for a text
+abbrev pub IsChoiceCause : (text line : List ℕ) → Type 0
+IsChoiceCause = IsLineOfText IsChoiceLine

@@ -7,6 +7,8 @@ pub mod Laws
 pub mod Sets
 pub mod States
 pub mod private
+pub mod LinesOfTexts
 pub mod ChoiceCauses
+pub mod ItemCauses
 pub mod Choices
 pub mod ChoiceLaws

@@ -1,7 +1,6 @@
 //! The line that says why an automaton is not deterministic.
 
-ghost use Rattle.std.specs.Prelude.{◌≡◌, [], IfOk, IsOkUnless};
-ghost use Rattle.omega_text.specs.declared.refusal.Refusal.TheVariants.{Memory};
+ghost use Rattle.std.specs.Prelude.{◌≡◌, IfOk, IsOkUnless};
 ghost use Rattle.omega_hoa_edges.specs.Refusing.{IsFirstClash};
 ghost use Rattle.omega_hoa_diagnostics.specs.ChoiceCauses.{IsChoiceCause, IsChoiceLine};
 ghost use Rattle.omega_hoa_diagnostics.specs.private.Found.{IsClashFound, IsStatesLine, clash_in};
@@ -10,6 +9,7 @@ use crate::choice_lines::{edges_line, starts_line};
 use crate::choosing::first_choice;
 use crate::labels::labels_of;
 use crate::rows::row_of;
+use crate::unread::line_of_unread;
 use omega_hoa::{automata_are_one, automata_are_unrefused, read_one};
 use omega_hoa_automaton::Automaton;
 use omega_hoa_edges::check_deterministic_states;
@@ -41,17 +41,6 @@ pub fn choice_cause(alloc: Global, text: &[u8]) -> Result<Vec<u8>, Refusal>
     match read_one(alloc, text) {
         Ok(automaton) => choice_line(alloc, &automaton),
         Err(refusal) => line_of_unread(alloc, refusal),
-    }
-}
-
-/// Returns no line for a text that is refused. [Refusal::Memory] says nothing of the text and is handed on.
-fn line_of_unread(alloc: Global, refusal: Refusal) -> Result<Vec<u8>, Refusal>
-    ensures none { IfOk result (λ line. (line.items ≡ []) × (refusal ≡ Memory → ⊥)) }
-    ensures memory { IsOkUnless result Refusal.Memory }
-{
-    match refusal {
-        Refusal::Memory => Err(Refusal::Memory),
-        _ => Ok(Vec::new(alloc)),
     }
 }
 

@@ -43,5 +43,5 @@ module _ (back : ControllersAreReadBack) (specification controller : List ℕ) (
   part_read =
       let text : controller ≡ canonical_automaton part = winner.written.2 in
       subst (λ (bytes : List ℕ). IsAutomatonText bytes part) (sym text)
-      (back specification given controlled kept reached is.answer.read is.answer.holds.judgeable.deterministic.plain is.answer.holds.stated tells
+      (back specification given controlled kept reached is.answer.read is.answer.holds.judgeable.deterministic.plain is.answer.holds.stated.controlled tells
       (subst (λ (bytes : List ℕ). length bytes ≤ most_text) text is.short))

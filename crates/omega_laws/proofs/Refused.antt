@@ -177,7 +177,7 @@ module _ (back : ControllersAreReadBack) (one : AutomataAreOne) (unrefused : Aut
   plain = controller_plain given controlled (written.kept back specification controller is) (written.reached back specification controller is) deterministic.plain
 
   stated : IsControlled given controlled
-  stated = is.answer.holds.stated
+  stated = is.answer.holds.stated.controlled
 
   -- the item of the controller lists the same
   own_stated : IsControlled part controlled

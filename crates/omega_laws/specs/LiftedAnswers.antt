@@ -4,7 +4,7 @@ use Rattle.omega_hoa_automaton.specs.Automaton.{Description}
 use Rattle.omega_solve.specs.budget.Observing.{IsObserved}
 use Rattle.omega_solve.specs.budget.Within.{EndsWithin}
 use Rattle.omega_solve.specs.declared.budget.observing.Progress.{Progress}
-use Rattle.omega_synth_controllers.specs.Controllable.{IsControlled}
+use Rattle.omega_synth_controllers.specs.Controllable.{IsStated}
 use Rattle.omega_hoa.specs.Alone.{IsAutomatonText}
 use Rattle.omega_game_values.specs.Game.{Node}
 use Rattle.omega_game_values.specs.declared.player.Player.TheVariants.{Zero}
@@ -26,7 +26,7 @@ pub record IsLiftedWithin (text : List ℕ) (budget : ℕ) : Type 0 where
   pub automaton : Description
   pub read : IsAutomatonText text automaton
   pub controlled : List ℕ
-  pub stated : IsControlled automaton controlled
+  pub stated : IsStated automaton controlled
   pub ended : (automaton.starts ≡ []) ⊎ OfRounds automaton controlled (EndsForZero budget)
 
 -- what is reported of the runs for a text that is not refused says so

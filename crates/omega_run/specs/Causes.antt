@@ -4,13 +4,14 @@ use Rattle.omega_text.specs.Refusal.{place_of}
 use Rattle.omega_text.specs.declared.refusal.Refusal.{Refusal}
 use Rattle.omega_text.specs.declared.refusal.Refusal.TheVariants.{Automaton, Game, Task, Text}
 use Rattle.omega_text.specs.declared.refusal.game.GameFault.TheVariants.{TooManyEdges, TooManyNodes}
-use Rattle.omega_text.specs.declared.refusal.task.TaskFault.TheVariants.{BadSolution, NotDeterministic}
+use Rattle.omega_text.specs.declared.refusal.task.TaskFault.TheVariants.{BadSolution, Controllable, NotDeterministic}
 use Rattle.omega_game_values.specs.Game.{Node}
 use Rattle.omega_hoa_diagnostics.specs.AutomatonCauses.{IsAutomatonCause}
 use Rattle.omega_pg_diagnostics.specs.GameCauses.{IsGameCause}
 use Rattle.omega_pg_diagnostics.specs.Places.{place_line}
 use Rattle.omega_pg_diagnostics.specs.SolutionCauses.{IsSolutionCause}
 use Rattle.omega_hoa_diagnostics.specs.ChoiceCauses.{IsChoiceCause}
+use Rattle.omega_hoa_diagnostics.specs.ItemCauses.{IsItemCause}
 use Rattle.omega_cli_command.specs.declared.command.Command.{Command}
 use Rattle.omega_cli_command.specs.declared.command.Command.TheVariants as command
 use Rattle.omega_cli_command.specs.declared.one_text.OneText.{OneText}
@@ -71,8 +72,8 @@ IsCauseBeside game_text from text line = (nodes : List Node) × IsJudgedGame gam
 
 -- the cause of a refusal of a text of this kind, which is written so and read as this text, beside another text: the
 -- place of 1, 2 and 3 as the text is written; why a game text within the limits makes no game, or a solution text is
--- none of the game beside it; what is at fault in an automaton, or why it is not deterministic; of other refusals
--- there is no line
+-- none of the game beside it; what is at fault in an automaton, why it is not deterministic, or that it lacks the
+-- item `controllable-AP:`; of other refusals there is no line
 abbrev pub IsCause : TextKind → (written text beside : List ℕ) → Refusal → List ℕ → Type 0
 IsCause of written text beside (Text fault) line = line ≡ line_at written (place_of (Text fault))
 IsCause of written text beside (Game TooManyNodes) line = line ≡ []
@@ -83,6 +84,7 @@ IsCause (kind.Solution from) written text beside (Task BadSolution) line =
 IsCause kind.Automata written text beside (Automaton fault) line = IsAutomatonCause text line
 IsCause kind.Automata written text beside (Task (NotDeterministic state)) line =
     IsChoiceCause text line
+IsCause kind.Automata written text beside (Task Controllable) line = IsItemCause text line
 IsCause of written text beside refusal line = line ≡ []
 
 -- after this outcome the line is the cause of its refusal, or none if there is no memory for it, or no refusal

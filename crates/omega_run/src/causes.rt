@@ -6,7 +6,7 @@ ghost use Rattle.omega_run.specs.Causes.{IsCause, IsCauseBeside, IsCauseTold, li
 use crate::text_kind::{TextKind, kind_of};
 use crate::texts::Held;
 use omega_answers_game::judged_game;
-use omega_hoa_diagnostics::{automaton_cause, choice_cause};
+use omega_hoa_diagnostics::{automaton_cause, choice_cause, item_cause};
 use omega_io::{Refusal, Refused, Which};
 use omega_pg_diagnostics::{game_cause, place_line, solution_cause};
 use omega_text::{GameFault, TaskFault};
@@ -67,6 +67,10 @@ fn cause_in(
         },
         Refusal::Task(TaskFault::NotDeterministic(_)) => match kind {
             TextKind::Automata => choice_cause(alloc, text),
+            _ => Ok(Vec::new(alloc)),
+        },
+        Refusal::Task(TaskFault::Controllable) => match kind {
+            TextKind::Automata => item_cause(alloc, text),
             _ => Ok(Vec::new(alloc)),
         },
         _ => Ok(Vec::new(alloc)),

@@ -1,6 +1,6 @@
 -- The header item `controllable-AP:` of extended HOA: the numbers of the propositions that the system controls.
-use Rattle.std.specs.Prelude.{◌≡◌, ℕ, ◌≤◌, Bool, false, List, codes, filter, length, map, nat_eq}
-use Rattle.std.specs.List.{flat_map}
+use Rattle.std.specs.Prelude.{◌≡◌, ℕ, ◌≤◌, Bool, false, true, List, codes, filter, length, map, nat_eq}
+use Rattle.std.specs.List.{flat_map, list_any}
 use Rattle.std.specs.Str.{bytes_eq}
 use Rattle.omega_text.specs.Cases.{never, or_memory, or_task}
 use Rattle.omega_text.specs.declared.refusal.Refusal.{Refusal}
@@ -13,6 +13,10 @@ use Rattle.omega_hoa_automaton.specs.declared.header.Header.{Header}
 -- whether a header has the item's name
 abbrev pub is_controllable_item : Header → Bool
 is_controllable_item header = bytes_eq header.name (codes "controllable-AP")
+
+-- whether an automaton has the item
+abbrev pub has_item : Description → Bool
+has_item a = list_any is_controllable_item a.unknown
 
 -- the items of that name
 abbrev pub controllable_items : Description → List Header
@@ -38,6 +42,15 @@ pub record IsControlled (a : Description) (numbers : List ℕ) : Type 0 where
 -- the propositions that the system controls are stated
 abbrev pub HasControlled : Description → Type 0
 HasControlled a = (numbers : List ℕ) × IsControlled a numbers
+
+-- an automaton has the item, and it says that the system controls the propositions with these numbers
+pub record IsStated (a : Description) (numbers : List ℕ) : Type 0 where
+  pub item : has_item a ≡ true
+  pub controlled : IsControlled a numbers
+
+-- an automaton has the item, and it states propositions
+abbrev pub HasStated : Description → Type 0
+HasStated a = (numbers : List ℕ) × IsStated a numbers
 
 -- the item is refused, only if this does not hold, or memory
 abbrev pub IsMisstated : Type 0 → Refusal → Type 0

@@ -2,8 +2,8 @@ ghost use Rattle.std.specs.Prelude.{◌≡◌, ◌<◌, [], ◌∷◌, IfErr, If
 ghost use Rattle.std.specs.Prelude.{filter, length, slice_index_or};
 ghost use Rattle.std.specs.List.{list_any};
 ghost use Rattle.omega_hoa_automaton.specs.declared.header.Header.{Header as header_item};
-ghost use Rattle.omega_synth_controllers.specs.Controllable.{AreNumbersOf, HasControlled, IsControlled};
-ghost use Rattle.omega_synth_controllers.specs.Controllable.{IsMisstated, HasNumbers, is_controllable_item};
+ghost use Rattle.omega_synth_controllers.specs.Controllable.{AreNumbersOf, HasControlled, HasStated, IsControlled};
+ghost use Rattle.omega_synth_controllers.specs.Controllable.{IsMisstated, IsStated, HasNumbers, has_item as has_item_of, is_controllable_item};
 
 use omega_hoa_automaton::{Automaton, Header, HeaderValue};
 use omega_text::{Numbers, Refusal, TaskFault};
@@ -24,6 +24,28 @@ pub fn controlled_propositions(alloc: Global, automaton: &Automaton) -> Result<N
         None => Ok(Numbers::new()),
         Some(at) => numbers_in(alloc, headers[at].values.as_slice(), count),
     }
+}
+
+/// Returns the numbers of the propositions that the system controls, as [controlled_propositions] does, of an automaton
+/// that has to have the item.
+///
+/// Fails with [TaskFault::Controllable] if it has none, or if that fails.
+pub fn stated_propositions(alloc: Global, automaton: &Automaton) -> Result<Numbers, Refusal>
+    ensures stated { IfOk result (IsStated automaton.now) }
+    ensures refused { IfErr result (IsMisstated (HasStated automaton.now)) }
+{
+    if has_controllable_item(automaton) {
+        controlled_propositions(alloc, automaton)
+    } else {
+        Err(Refusal::Task(TaskFault::Controllable))
+    }
+}
+
+/// Whether the header of `automaton` has the item `controllable-AP:`.
+pub fn has_controllable_item(automaton: &Automaton) -> bool
+    ensures { result ≡ has_item_of automaton.now }
+{
+    has_item(automaton.unknown())
 }
 
 /// Returns the index of the item `controllable-AP:` among `headers`, if it stands there. Fails with

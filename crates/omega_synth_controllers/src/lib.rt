@@ -9,7 +9,7 @@
 mod controllable;
 mod laws;
 
-pub use controllable::controlled_propositions;
+pub use controllable::{controlled_propositions, has_controllable_item, stated_propositions};
 pub use laws::{
     beating_excludes_realizing, controllers_answer, controllers_exclude_counter_strategies,
     controllers_realize, counter_strategies_beat, counter_strategies_refute,

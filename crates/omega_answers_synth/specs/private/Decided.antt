@@ -1,6 +1,6 @@
 -- What was decided of the question whether an automaton is realizable.
 use Rattle.std.specs.Prelude.{List, ℕ}
-use Rattle.omega_synth_controllers.specs.Controllable.{IsControlled}
+use Rattle.omega_synth_controllers.specs.Controllable.{IsStated}
 use Rattle.omega_hoa.specs.Alone.{IsAutomatonText}
 use Rattle.omega_synth_realize.specs.Realizing.{IsRealizability}
 use Rattle.omega_synth_realize.specs.Refusing.{IsJudgeable}
@@ -8,7 +8,7 @@ use Rattle.omega_answers_synth.specs.declared.decided.Decided.{Decided}
 
 -- the answer is right, where the system controls the propositions that the automaton's item lists
 pub record IsDecided (decided : Decided) : Type 0 where
-  pub stated : IsControlled decided.question.automaton decided.question.controlled
+  pub stated : IsStated decided.question.automaton decided.question.controlled
   pub judgeable : IsJudgeable decided.question.automaton
   pub realizability : IsRealizability decided.question.automaton
       decided.question.controlled decided.realizability

@@ -17,8 +17,8 @@ returns-in-Err-controlled_propositions-clause-refused c =
 pub returns-then-not-are_alike-clause-refused : goal.returns-then-not-are_alike-clause-refused
 returns-then-not-are_alike-clause-refused c =
     unlike_reported c.args.specification.now c.args.controller.now c.in-Ok.numbers c.in-Ok-controlled_propositions.numbers
-    c.propositions-names.result.now c.propositions-own_names.result.now c.as_slice.result.now c.as_slice-then-has_item.result.now c.unknown.result.now
+    c.propositions-names.result.now c.propositions-own_names.result.now c.as_slice.result.now c.as_slice-then-has_controllable_item.result.now
     c.in-Ok.ensures.controlled c.in-Ok-controlled_propositions.ensures.controlled
-    c.propositions-names.ensures c.propositions-own_names.ensures c.as_slice.ensures c.as_slice-then-has_item.ensures c.unknown.ensures
-    (sym c.has_item.ensures ∙ c.if-has_item.true) (λ alike. false≢true (sym c.if-not-are_alike.true ∙ c.are_alike.ensures.1 alike))
+    c.propositions-names.ensures c.propositions-own_names.ensures c.as_slice.ensures c.as_slice-then-has_controllable_item.ensures
+    (sym c.has_controllable_item.ensures ∙ c.if-has_controllable_item.true) (λ alike. false≢true (sym c.if-not-are_alike.true ∙ c.are_alike.ensures.1 alike))
     c.of-then-not-are_alike.result c.of-then-not-are_alike.ensures
