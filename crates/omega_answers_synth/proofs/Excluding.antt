@@ -27,7 +27,7 @@ use Rattle.omega_io.specs.declared.exit.Exit.TheVariants.{Done, No}
 use Rattle.omega_answers_synth.specs.Decide.{IsVerdict}
 use Rattle.omega_synth_controllers.specs.Controllers.{HasCounterStrategy}
 use Rattle.omega_answers_synth.specs.Laws.{ControllersForExcludeCounterStrategies, YesExcludesUnrealizable}
-use Rattle.omega_answers_synth.specs.Parting.{AreAlike, IsParted}
+use Rattle.omega_answers_synth.specs.Parting.{AreAlike, AreControlledAlike}
 use Rattle.omega_answers_synth.proofs.ControllerStated.{controlled_one}
 use Rattle.omega_answers_synth.proofs.Exact.{done_controls}
 
@@ -175,8 +175,8 @@ yes_excludes_unrealizable one means exact excludes decided file input output lin
     let for : IsControllerFor specification controller right.controlled =
     (exact decided specification controller right.controlled right.judgement judged).0
     (done_controls explain controller right.controlled right.judgement (sym right.reply.0 ∙ told.0)) in
-    let parted : IsParted specification controller right.controlled =
-    subst (λ (s : Description). IsParted s controller right.controlled) same right.parted in
+    let parted : AreControlledAlike specification controller right.controlled =
+    subst (λ (s : Description). AreControlledAlike s controller right.controlled) same right.parted in
     let stated : IsStated specification verdict.holds.controlled =
     subst (λ (s : Description). IsStated s verdict.holds.controlled) also verdict.holds.stated in
     let deterministic : IsDeterministic specification = subst IsDeterministic also verdict.holds.judgeable.deterministic in

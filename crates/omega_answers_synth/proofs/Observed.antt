@@ -15,14 +15,14 @@ use Rattle.omega_game_values.specs.declared.player.Player.{Player}
 use Rattle.omega_synth_realize.specs.Lifting.{LiftsAutomaton}
 use Rattle.omega_answers.proofs.Refusals.{text_spares}
 use Rattle.omega_answers_synth.specs.Observing.{LiftsText}
-use Rattle.omega_answers_synth.specs.private.Question.{IsUnasked}
+use Rattle.omega_answers_synth.specs.private.Question.{IsQuestionRefusal}
 
 -- no item is refused for the budget
 item_spares : (stated : Type 0) → IsMisstated stated (Task Budget) → ⊥
 item_spares stated h = let e : Budget ≡ Controllable = h.0 in cc
 
 -- so no text is that states no question
-pub unasked_spares : (text : List ℕ) → or_memory (IsUnasked text) (Task Budget) → ⊥
+pub unasked_spares : (text : List ℕ) → or_memory (IsQuestionRefusal text) (Task Budget) → ⊥
 unasked_spares text (inl unread) = text_spares text unread
 unasked_spares text (inr item) = item_spares _ item.holds
 

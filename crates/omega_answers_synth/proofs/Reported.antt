@@ -10,7 +10,7 @@ use Rattle.omega_synth_check.specs.Refusing.{IsJudgeRefusal}
 use Rattle.omega_io.specs.Refused.{about}
 use Rattle.omega_io.specs.declared.refused.Refused.{Refused}
 use Rattle.omega_io.specs.declared.refused.Which.TheVariants.{File, Input}
-use Rattle.omega_answers_synth.specs.Parting.{AreAlike, IsParted}
+use Rattle.omega_answers_synth.specs.Parting.{AreAlike, AreControlledAlike}
 use Rattle.omega_answers_synth.specs.Verify.{IsPairRefusal, RefusesController, controller_misstated, not_judged, parted_unlike, specification_misstated}
 use Rattle.omega_answers_synth.specs.private.Reported.{judge_reported}
 
@@ -56,7 +56,7 @@ module _ (specification controller : Description) where
       (inr (parted_unlike stated controlled is_stated is_controlled item apart))
 
   -- the judge refuses
-  pub judge_refused : (controlled : List ℕ) → IsParted specification controller controlled → (refusal : Refusal) → IsJudgeRefusal specification controller controlled refusal
+  pub judge_refused : (controlled : List ℕ) → AreControlledAlike specification controller controlled → (refusal : Refusal) → IsJudgeRefusal specification controller controlled refusal
       → (reported : Refused) → reported ≡ judge_reported controller refusal → RefusesController specification controller reported
   judge_refused controlled parted refusal refused reported is =
       subst (RefusesController specification controller) (sym is) (inr (not_judged controlled refusal parted refused))

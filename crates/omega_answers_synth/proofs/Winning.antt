@@ -7,10 +7,10 @@ use Rattle.omega_synth_realize.specs.declared.realizability.Realizability.TheVar
 use Rattle.omega_synth_text.specs.Winner.{IsControllerText, IsCounterStrategyText}
 use Rattle.omega_answers_synth.specs.Winner.{IsWinning}
 use Rattle.omega_answers_synth.specs.declared.decided.Decided.{Decided}
-use Rattle.omega_answers_synth.specs.private.Decided.{IsDecided}
+use Rattle.omega_answers_synth.specs.private.Decided.{IsDecidedRightly}
 
 -- that of a controller, if there is one
-pub controller_wins : (decided : Decided) (listed edges kept text : List ℕ) → IsDecided decided → decided.realizability ≡ Realizable kept
+pub controller_wins : (decided : Decided) (listed edges kept text : List ℕ) → IsDecidedRightly decided → decided.realizability ≡ Realizable kept
     → listed ≡ decided.question.controlled → edges ≡ kept → IsControllerText decided.question.automaton listed edges text
     → IsWinning decided.question.automaton Done text
 controller_wins decided listed edges kept text is found same_listed same_edges written =
@@ -30,7 +30,7 @@ controller_wins decided listed edges kept text is found same_listed same_edges w
     }
 
 -- and that of a counter-strategy, if there is one
-pub counter_strategy_wins : (decided : Decided) (listed edges kept : List ℕ) (given letters : List (List ℕ)) (text : List ℕ) → IsDecided decided
+pub counter_strategy_wins : (decided : Decided) (listed edges kept : List ℕ) (given letters : List (List ℕ)) (text : List ℕ) → IsDecidedRightly decided
     → decided.realizability ≡ Unrealizable kept letters → listed ≡ decided.question.controlled → edges ≡ kept → given ≡ letters
     → IsCounterStrategyText decided.question.automaton listed edges given text → IsWinning decided.question.automaton No text
 counter_strategy_wins decided listed edges kept given letters text is found same_listed same_edges same_letters written =

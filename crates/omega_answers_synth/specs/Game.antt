@@ -7,7 +7,7 @@ use Rattle.omega_synth_controllers.specs.Controllable.{HasStated, IsMisstated, I
 use Rattle.omega_game_values.specs.Game.{Node}
 use Rattle.omega_pg.specs.game.Canonical.{canonical_game}
 use Rattle.omega_answers.specs.OneAutomaton.{IsRefusalOfText, OfAutomaton}
-use Rattle.omega_synth_realize.specs.Gaming.{IsRealizabilityGame, IsUngamed}
+use Rattle.omega_synth_realize.specs.Gaming.{IsRealizabilityGame, IsRealizabilityGameRefusal}
 
 -- the game of an automaton, where the system controls the propositions that its item `controllable-AP:` lists
 pub record IsStatedGame (a : Description) (nodes : List Node) : Type 0 where
@@ -29,7 +29,7 @@ IsGameAnswer text output = OfAutomaton (λ a. IsGameText a output) text
 pub record RefusesGame (a : Description) (refusal : Refusal) : Type 0 where
   pub controlled : List ℕ
   pub stated : IsStated a controlled
-  pub refused : IsUngamed a controlled refusal
+  pub refused : IsRealizabilityGameRefusal a controlled refusal
 
 -- the refusal of an automaton: that of its item, or else that of the game
 abbrev pub IsUngamedAutomaton : Description → Refusal → Type 0

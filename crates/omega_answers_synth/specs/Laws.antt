@@ -21,7 +21,7 @@ use Rattle.omega_text.specs.Omniscience.{LimitedPrincipleOfOmniscience}
 use Rattle.omega_io.specs.Answer.{IsYes}
 use Rattle.omega_answers_synth.specs.Decide.{IsDecisionAnswer}
 use Rattle.omega_answers_synth.specs.Letter.{letter_text}
-use Rattle.omega_answers_synth.specs.Parting.{IsParted}
+use Rattle.omega_answers_synth.specs.Parting.{AreControlledAlike}
 use Rattle.omega_answers_synth.specs.Verify.{IsControllerAnswer}
 use Rattle.omega_answers_synth.specs.Winner.{IsWinnerAnswer}
 
@@ -73,7 +73,7 @@ ControllersForExcludeCounterStrategies =
     (specification controller : Description) (controlled stated kept : List ℕ)
     (letters : ℕ → ℕ → Bool) → IsAutomaton specification → IsDeterministic specification
     → IsAutomaton controller → AcceptsAll controller
-    → IsParted specification controller controlled → has_item specification ≡ true
+    → AreControlledAlike specification controller controlled → has_item specification ≡ true
     → IsControllerFor specification controller controlled → IsControlled specification stated
     → IsCounterStrategy specification stated kept letters → ⊥
 

@@ -13,7 +13,7 @@ AreAlike ones others controlled also_controlled =
 
 -- the system controls these propositions of the controller, as its item says. The specification misstates none, and if
 -- it has the item, both say the same of the names that both have
-pub record IsParted (specification controller : Description) (controlled : List ℕ) : Type 0 where
+pub record AreControlledAlike (specification controller : Description) (controlled : List ℕ) : Type 0 where
   pub own : IsControlled controller controlled
   pub stated : List ℕ
   pub other : IsControlled specification stated

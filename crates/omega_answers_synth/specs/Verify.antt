@@ -18,7 +18,7 @@ use Rattle.omega_io.specs.declared.refused.Which.{Which}
 use Rattle.omega_io.specs.declared.refused.Which.TheVariants.{File, Input}
 use Rattle.omega_io.specs.Answer.{IsReply}
 use Rattle.omega_answers.specs.TwoAutomata.{IsRefusalOfTexts, OfAutomata}
-use Rattle.omega_answers_synth.specs.Parting.{AreAlike, IsParted}
+use Rattle.omega_answers_synth.specs.Parting.{AreAlike, AreControlledAlike}
 use Rattle.omega_answers_synth.specs.Reason.{judgement_answer}
 
 -- what is written of a specification and an automaton is right: `yes` if it is a controller for the specification, and
@@ -26,7 +26,7 @@ use Rattle.omega_answers_synth.specs.Reason.{judgement_answer}
 pub record IsControllerVerdict (specification controller : Description) (explain : Bool)
     (exit : Exit) (output : List ℕ) : Type 0 where
   pub controlled : List ℕ
-  pub parted : IsParted specification controller controlled
+  pub parted : AreControlledAlike specification controller controlled
   pub judged : AreJudged specification controller
   pub judgement : Judgement
   pub right : IsJudgement specification controller controlled judgement
@@ -61,7 +61,7 @@ pub data IsPairRefusal (specification controller : Description) : Option Which
       → ¬ AreAlike specification.propositions controller.propositions stated controlled
       → IsPairRefusal specification controller (Some Input) (Task Controllable)
   not_judged :
-      (controlled : List ℕ) (refusal : Refusal) → IsParted specification controller controlled
+      (controlled : List ℕ) (refusal : Refusal) → AreControlledAlike specification controller controlled
       → IsJudgeRefusal specification controller controlled refusal
       → IsPairRefusal specification controller (text_about controller refusal) refusal
 

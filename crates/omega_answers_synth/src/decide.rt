@@ -7,7 +7,7 @@ ghost use Rattle.omega_text.specs.Cases.{or_memory};
 ghost use Rattle.omega_answers_synth.specs.Decide.{IsDecision, IsDecisionAnswer};
 ghost use Rattle.omega_answers_synth.specs.Observing.{LiftsText};
 ghost use Rattle.omega_answers_synth.specs.Refusing.{IsRealizeRefusal};
-ghost use Rattle.omega_answers_synth.specs.private.Decided.{IsDecided};
+ghost use Rattle.omega_answers_synth.specs.private.Decided.{IsDecidedRightly};
 
 use crate::decided::{Decided, decided_by_lifting, decided_in};
 use omega_hoa_automaton::Refusal;
@@ -52,7 +52,7 @@ pub fn decide_realizability_by_lifting<L, W: Reporter<L>>(
 
 /// Returns the line that tells what was `decided`.
 fn verdict_of(alloc: Global, decided: &Decided) -> Result<(Exit, Vec<u8>), Refusal>
-    requires { IsDecided decided.now }
+    requires { IsDecidedRightly decided.now }
     ensures decision { IfOk result
         (λ made. IsDecision decided.now.question.automaton made.0 made.1.items) }
     ensures memory { IsOkUnless result Refusal.Memory }

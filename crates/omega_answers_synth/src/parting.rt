@@ -2,7 +2,7 @@
 
 ghost use Rattle.std.specs.Prelude.{◌≡◌, ◌↔◌, IfErr, IfOk, IsTrue};
 ghost use Rattle.omega_graph.specs.Graph.{listed};
-ghost use Rattle.omega_answers_synth.specs.Parting.{AreAlike, IsParted};
+ghost use Rattle.omega_answers_synth.specs.Parting.{AreAlike, AreControlledAlike};
 ghost use Rattle.omega_answers_synth.specs.private.Alike.{IsAlike, is_unlike};
 ghost use Rattle.omega_answers_synth.specs.Verify.{RefusesController};
 
@@ -22,7 +22,7 @@ pub(crate) fn controlled_numbers(
     specification: &Automaton,
     controller: &Automaton,
 ) -> Result<Numbers, Refused>
-    ensures parted { IfOk result (IsParted specification.now controller.now) }
+    ensures parted { IfOk result (AreControlledAlike specification.now controller.now) }
     ensures refused { IfErr result (RefusesController specification.now controller.now) }
 {
     let stated = match controlled_propositions(alloc, specification) {

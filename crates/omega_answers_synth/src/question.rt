@@ -1,6 +1,6 @@
 ghost use Rattle.std.specs.Prelude.{IfErr, IfOk};
 ghost use Rattle.omega_text.specs.Cases.{or_memory};
-ghost use Rattle.omega_answers_synth.specs.private.Question.{IsQuestion, IsUnasked};
+ghost use Rattle.omega_answers_synth.specs.private.Question.{IsQuestion, IsQuestionRefusal};
 
 use omega_hoa::read_one;
 use omega_hoa_automaton::{Automaton, Refusal};
@@ -18,7 +18,7 @@ pub(crate) struct Question {
 /// Reads the automaton of `text`, and then its item.
 pub(crate) fn question_in(alloc: Global, text: &[u8]) -> Result<Question, Refusal>
     ensures question { IfOk result (IsQuestion text.now) }
-    ensures refused { IfErr result (or_memory (IsUnasked text.now)) }
+    ensures refused { IfErr result (or_memory (IsQuestionRefusal text.now)) }
 {
     let automaton = read_one(alloc, text)?;
     let controlled = stated_propositions(alloc, &automaton)?;

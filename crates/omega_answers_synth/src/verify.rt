@@ -1,5 +1,5 @@
 ghost use Rattle.std.specs.Prelude.{IfErr, IfOk};
-ghost use Rattle.omega_answers_synth.specs.Parting.{IsParted};
+ghost use Rattle.omega_answers_synth.specs.Parting.{AreControlledAlike};
 ghost use Rattle.omega_answers_synth.specs.Verify.{IsControllerAnswer, IsControllerRefused};
 ghost use Rattle.omega_answers_synth.specs.Verify.{IsControllerVerdict, RefusesController};
 ghost use Rattle.omega_synth_check.specs.Refusing.{IsJudgeRefusal};
@@ -80,7 +80,7 @@ fn controller_reply(
     controlled: &[u32],
     explain: bool,
 ) -> Result<(Exit, Vec<u8>), Refusal>
-    requires { IsParted specification.now controller.now controlled.now }
+    requires { AreControlledAlike specification.now controller.now controlled.now }
     ensures verdict { IfOk result
         (λ made. IsControllerVerdict specification.now controller.now explain made.0 made.1.items) }
     ensures refused { IfErr result (IsJudgeRefusal specification.now controller.now controlled.now) }

@@ -7,7 +7,7 @@ ghost use Rattle.omega_text.specs.Cases.{or_memory};
 ghost use Rattle.omega_answers_synth.specs.Observing.{LiftsText};
 ghost use Rattle.omega_answers_synth.specs.Refusing.{IsRealizeRefusal};
 ghost use Rattle.omega_answers_synth.specs.Winner.{IsWinnerAnswer, IsWinning};
-ghost use Rattle.omega_answers_synth.specs.private.Decided.{IsDecided};
+ghost use Rattle.omega_answers_synth.specs.private.Decided.{IsDecidedRightly};
 
 use crate::decided::{Decided, decided_by_lifting, decided_in};
 use omega_hoa_automaton::Refusal;
@@ -48,7 +48,7 @@ pub fn write_winner_by_lifting<L, W: Reporter<L>>(
 
 /// Returns the automaton of the winner of what was `decided`.
 fn winner_of(alloc: Global, decided: &Decided) -> Result<(Exit, Vec<u8>), Refusal>
-    requires { IsDecided decided.now }
+    requires { IsDecidedRightly decided.now }
     ensures winning { IfOk result
         (λ made. IsWinning decided.now.question.automaton made.0 made.1.items) }
     ensures memory { IsOkUnless result Refusal.Memory }

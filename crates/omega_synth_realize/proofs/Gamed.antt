@@ -16,8 +16,8 @@ use Rattle.omega_synth_rounds.specs.Rounds.{IsRounds}
 use Rattle.omega_synth_rounds.specs.RoundsGame.{IsRoundsFault, IsRoundsRefusal, node_count, node_for}
 use Rattle.omega_synth_rounds.specs.declared.rounds.Rounds.{Rounds}
 use Rattle.omega_synth_game.specs.Laws.{IsParted}
-use Rattle.omega_synth_realize.specs.Gaming.{IsUngamed, no_rounds}
-use Rattle.omega_synth_realize.specs.Refusing.{IsJudgeable, IsUnparted}
+use Rattle.omega_synth_realize.specs.Gaming.{IsRealizabilityGameRefusal, no_rounds}
+use Rattle.omega_synth_realize.specs.Refusing.{IsJudgeable, IsPartingRefusal}
 use Rattle.omega_synth_realize.proofs.Sized.{large}
 
 -- the game has a node for each place
@@ -31,7 +31,7 @@ named_count rounds game named =
     )
 
 module _ (a : Description) (controlled : List ℕ) where
-  pub unparted_ungamed : (e : Refusal) → IsUnparted a controlled e → IsUngamed a controlled e
+  pub unparted_ungamed : (e : Refusal) → IsPartingRefusal a controlled e → IsRealizabilityGameRefusal a controlled e
   unparted_ungamed (Game fault) refused = refused
   unparted_ungamed (Task fault) refused = refused
   unparted_ungamed Memory refused = refused
@@ -40,7 +40,7 @@ module _ (a : Description) (controlled : List ℕ) where
   unparted_ungamed Io refused = absurd refused
 
   pub rounds_ungamed : (rounds : Rounds) (letters : List (List ℕ)) (start : ℕ) → IsParted a controlled rounds letters start → IsJudgeable a
-      → (e : Refusal) → IsRoundsRefusal rounds e → IsUngamed a controlled e
+      → (e : Refusal) → IsRoundsRefusal rounds e → IsRealizabilityGameRefusal a controlled e
   rounds_ungamed rounds letters start parted judgeable (Game fault) refused = large a controlled rounds letters start parted judgeable fault refused
   rounds_ungamed rounds letters start parted judgeable Memory refused = refused
   rounds_ungamed rounds letters start parted judgeable (Text fault) refused = absurd refused
@@ -55,7 +55,7 @@ module _ (a : Description) (controlled : List ℕ) where
   none_faultless UndefinedSuccessor is = is
   none_faultless HeaderTooSmall is = is
 
-  pub none_ungamed : {X : Type 0} (r : Result X Refusal) → IfErr r (IsRoundsRefusal no_rounds) → IfErr r (IsUngamed a controlled)
+  pub none_ungamed : {X : Type 0} (r : Result X Refusal) → IfErr r (IsRoundsRefusal no_rounds) → IfErr r (IsRealizabilityGameRefusal a controlled)
   none_ungamed (Ok x) refused = tt
   none_ungamed (Err (Game fault)) refused = absurd (none_faultless fault refused)
   none_ungamed (Err Memory) refused = refused
@@ -65,9 +65,9 @@ module _ (a : Description) (controlled : List ℕ) where
   none_ungamed (Err Io) refused = absurd refused
 
 pub memory_ungamed : {X : Type 0} (r : Result X Refusal) (a : Description) (controlled : List ℕ) → IsOkUnless r Memory
-    → IfErr r (IsUngamed a controlled)
+    → IfErr r (IsRealizabilityGameRefusal a controlled)
 memory_ungamed (Ok x) a controlled memory = tt
-memory_ungamed (Err e) a controlled memory = subst (IsUngamed a controlled) (sym memory) tt
+memory_ungamed (Err e) a controlled memory = subst (IsRealizabilityGameRefusal a controlled) (sym memory) tt
 
 pub no_rounds_are : IsRounds no_rounds
 no_rounds_are = record {

@@ -17,14 +17,14 @@ use Rattle.omega_solve.specs.budget.Observing.{IsObserved}
 use Rattle.omega_hoa_edges.specs.Determinism.{IsDeterministic}
 use Rattle.omega_hoa_edges.specs.Refusing.{AreUnjudged, IsFirstUndecided, IsStartRefusal, IsStatesFault}
 use Rattle.omega_synth_rounds.specs.declared.rounds.Rounds.{Rounds}
-use Rattle.omega_synth_realize.specs.Solving.{IsUndecided, LiftsRounds}
+use Rattle.omega_synth_realize.specs.Solving.{IsOutcomeRefusal, LiftsRounds}
 use Rattle.omega_synth_realize.proofs.Sized.{large, many_nodes}
 use Rattle.omega_synth_realize.proofs.Strategies.{lifted_refused}
 use Rattle.omega_synth_game.specs.Laws.{IsParted}
 use Rattle.omega_synth_game.specs.Making.{IsMakingFault, IsUnmade}
 use Rattle.omega_synth_game.specs.Sizes.{IsSizeFault}
 use Rattle.omega_synth_realize.specs.Lifting.{LiftsAutomaton, LiftsParted}
-use Rattle.omega_synth_realize.specs.Refusing.{HasNoClash, HasParityKind, IsJudgeable, IsJudgingFault, IsPartingFault, IsPosed, IsSingle, IsUndecidedRounds, IsUnjudgeable, IsUnparted, IsUnrealized, branches, clash, no_kind, second_start, undecided, unjudged, unmade}
+use Rattle.omega_synth_realize.specs.Refusing.{HasNoClashBeforeUndecided, HasParityKind, IsJudgeable, IsJudgingFault, IsPartingFault, IsPosed, IsSingle, IsOutcomeRefusalOf, IsPosingRefusal, IsPartingRefusal, IsRealizabilityRefusal, branches, clash, no_kind, second_start, undecided, unjudged, unmade}
 use Rattle.omega_synth_realize.specs.private.Undecided.{is_undecided}
 
 -- what holds, holds where there is an answer
@@ -33,7 +33,7 @@ on_ok_of (Ok x) P p = p
 on_ok_of (Err e) P p = tt
 
 module _ (a : Description) where
-  pub starts_unjudgeable : has_universal_branching a ≡ false → (e : Refusal) → IsStartRefusal a e → IsUnjudgeable a e
+  pub starts_unjudgeable : has_universal_branching a ≡ false → (e : Refusal) → IsStartRefusal a e → IsPosingRefusal a e
   starts_unjudgeable plain (Task fault) refused = subst (IsJudgingFault a) (sym refused.1) (second_start refused.0 plain refused.2)
   starts_unjudgeable plain Memory refused = absurd refused
   starts_unjudgeable plain (Text fault) refused = absurd refused
@@ -41,7 +41,7 @@ module _ (a : Description) where
   starts_unjudgeable plain (Automaton fault) refused = absurd refused
   starts_unjudgeable plain Io refused = absurd refused
 
-  pub kind_unjudgeable : IsSingle a → HasNoClash a → (e : Refusal) → IsNotParity (HasParityKind a → ⊥) e → IsUnjudgeable a e
+  pub kind_unjudgeable : IsSingle a → HasNoClashBeforeUndecided a → (e : Refusal) → IsNotParity (HasParityKind a → ⊥) e → IsPosingRefusal a e
   kind_unjudgeable single none (Task fault) refused = subst (IsJudgingFault a) (sym refused.0) (no_kind single none refused.1)
   kind_unjudgeable single none Memory refused = absurd refused
   kind_unjudgeable single none (Text fault) refused = absurd refused
@@ -50,7 +50,7 @@ module _ (a : Description) where
   kind_unjudgeable single none Io refused = absurd refused
 
   -- two edges at one letter, or want of memory
-  pub decided_unjudgeable : IsSingle a → (e : Refusal) → AreUnjudged a e → is_undecided e ≡ false → IsUnjudgeable a e
+  pub decided_unjudgeable : IsSingle a → (e : Refusal) → AreUnjudged a e → is_undecided e ≡ false → IsPosingRefusal a e
   decided_unjudgeable single (Task fault) refused decided = go refused
     where
       go : IsStatesFault a fault → IsJudgingFault a fault
@@ -83,7 +83,7 @@ module _ (a : Description) where
   kind_judgeable (Err e) deterministic has = tt
 
 module _ (a : Description) (controlled : List ℕ) where
-  pub unjudgeable_unparted : (e : Refusal) → IsUnjudgeable a e → IsUnparted a controlled e
+  pub unjudgeable_unparted : (e : Refusal) → IsPosingRefusal a e → IsPartingRefusal a controlled e
   unjudgeable_unparted (Task fault) refused = unjudged fault refused
   unjudgeable_unparted Memory refused = refused
   unjudgeable_unparted (Text fault) refused = absurd refused
@@ -91,7 +91,7 @@ module _ (a : Description) (controlled : List ℕ) where
   unjudgeable_unparted (Automaton fault) refused = absurd refused
   unjudgeable_unparted Io refused = absurd refused
 
-  pub unmade_unparted : IsPosed a → (e : Refusal) → IsUnmade a controlled e → IsUnparted a controlled e
+  pub unmade_unparted : IsPosed a → (e : Refusal) → IsUnmade a controlled e → IsPartingRefusal a controlled e
   unmade_unparted posed (Game fault) refused = (posed, subst (IsSizeFault a controlled) (sym refused.0) (many_nodes a controlled refused.1))
   unmade_unparted posed (Task fault) refused = unmade fault posed refused
   unmade_unparted posed Memory refused = refused
@@ -99,7 +99,7 @@ module _ (a : Description) (controlled : List ℕ) where
   unmade_unparted posed (Automaton fault) refused = absurd refused
   unmade_unparted posed Io refused = absurd refused
 
-  pub unparted_unrealized : (budget : ℕ) (e : Refusal) → IsUnparted a controlled e → IsUnrealized a controlled budget e
+  pub unparted_unrealized : (budget : ℕ) (e : Refusal) → IsPartingRefusal a controlled e → IsRealizabilityRefusal a controlled budget e
   unparted_unrealized budget (Game fault) refused = refused
   unparted_unrealized budget (Task fault) refused = inl refused
   unparted_unrealized budget Memory refused = refused
@@ -107,8 +107,8 @@ module _ (a : Description) (controlled : List ℕ) where
   unparted_unrealized budget (Automaton fault) refused = absurd refused
   unparted_unrealized budget Io refused = absurd refused
 
-  pub undecided_unrealized : {X : Type 0} (budget : ℕ) (r : Result X Refusal) → IfErr r (IsUndecidedRounds a controlled budget)
-      → IfErr r (IsUnrealized a controlled budget)
+  pub undecided_unrealized : {X : Type 0} (budget : ℕ) (r : Result X Refusal) → IfErr r (IsOutcomeRefusalOf a controlled budget)
+      → IfErr r (IsRealizabilityRefusal a controlled budget)
   undecided_unrealized budget (Ok x) refused = tt
   undecided_unrealized budget (Err (Game fault)) refused = refused
   undecided_unrealized budget (Err (Task fault)) refused = inr refused
@@ -118,8 +118,8 @@ module _ (a : Description) (controlled : List ℕ) where
   undecided_unrealized budget (Err Io) refused = absurd refused
 
   module _ (rounds : Rounds) (letters : List (List ℕ)) (start budget : ℕ) where
-    pub rounds_undecided : (e : Refusal) → IsParted a controlled rounds letters start → IsJudgeable a → IsUndecided rounds start budget e
-        → IsUndecidedRounds a controlled budget e
+    pub rounds_undecided : (e : Refusal) → IsParted a controlled rounds letters start → IsJudgeable a → IsOutcomeRefusal rounds start budget e
+        → IsOutcomeRefusalOf a controlled budget e
     rounds_undecided (Game fault) parted judgeable hard = large a controlled rounds letters start parted judgeable fault hard
     rounds_undecided (Task fault) parted judgeable hard = record { rounds = rounds; letters = letters; start = start; parted = parted; is = hard }
     rounds_undecided Memory parted judgeable hard = hard
@@ -172,7 +172,7 @@ module _ (a : Description) (controlled : List ℕ) where
   parting_spares fault (unjudged other is) e = judging_spares other is e
   parting_spares fault (unmade other posed is) e = making_spares other is e
 
-  pub unparted_spares : IsUnparted a controlled (Task Budget) → ⊥
+  pub unparted_spares : IsPartingRefusal a controlled (Task Budget) → ⊥
   unparted_spares refused = parting_spares Budget refused refl
 
   -- without a start no run is made

@@ -26,7 +26,8 @@ use Rattle.omega_solve.proofs.within_budget.Observed.{made_refused}
 use Rattle.omega_synth_rounds.specs.Extracting.{IsWinningFrom}
 use Rattle.omega_synth_rounds.specs.RoundsGame.{IsRoundsGame, node_count, node_for, table}
 use Rattle.omega_synth_rounds.specs.declared.rounds.Rounds.{Rounds}
-use Rattle.omega_synth_realize.specs.Solving.{AreLifted, IsLiftingFault, IsLiftingRefusal, IsNarrow, IsBudgetShort, IsUndecided, IsWide}
+use Rattle.omega_solve.specs.Turns.{IsNarrow}
+use Rattle.omega_synth_realize.specs.Solving.{AreLifted, IsLiftingFault, IsLiftingRefusal, IsBudgetShort, IsOutcomeRefusal, IsWidthRefusal}
 use Rattle.omega_synth_realize.specs.declared.outcome.Outcome.{Outcome}
 
 -- the game has a node for each place
@@ -74,7 +75,7 @@ player_refused Io game player start budget narrow spent refused = absurd refused
 
 -- and of the rounds
 pub lifting_refused : (r : Result Outcome Refusal) (rounds : Rounds) (game : List Node) (start budget : ℕ) → IsRoundsGame rounds game
-    → IfErr r (IsLiftingRefusal game start budget) → IfErr r (IsUndecided rounds start budget)
+    → IfErr r (IsLiftingRefusal game start budget) → IfErr r (IsOutcomeRefusal rounds start budget)
 lifting_refused (Ok found) rounds game start budget made refused = tt
 lifting_refused (Err (Text fault)) rounds game start budget made refused = absurd refused
 lifting_refused (Err (Game fault)) rounds game start budget made refused = absurd refused
@@ -84,8 +85,8 @@ lifting_refused (Err Memory) rounds game start budget made refused = refused
 lifting_refused (Err Io) rounds game start budget made refused = absurd refused
 
 -- so is that of a game that is too wide
-pub wide_refused : (e : Refusal) (rounds : Rounds) (game : List Node) (start budget : ℕ) → IsRoundsGame rounds game → IsWide game e
-    → IsUndecided rounds start budget e
+pub wide_refused : (e : Refusal) (rounds : Rounds) (game : List Node) (start budget : ℕ) → IsRoundsGame rounds game → IsWidthRefusal game e
+    → IsOutcomeRefusal rounds start budget e
 wide_refused (Text fault) rounds game start budget made refused = absurd refused
 wide_refused (Game fault) rounds game start budget made refused = absurd refused
 wide_refused (Automaton fault) rounds game start budget made refused = absurd refused

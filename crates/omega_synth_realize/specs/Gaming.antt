@@ -32,6 +32,6 @@ IsRealizabilityGame a controlled game =
     ((a.starts ≡ []) × IsNamedGame no_rounds game) ⊎ IsPartedGame a controlled game
 
 -- the refusal of the game: it is too large, there are no rounds, or want of memory
-abbrev pub IsUngamed : Description → List ℕ → Refusal → Type 0
-IsUngamed a controlled = or_game (IsLargeFault a controlled)
+abbrev pub IsRealizabilityGameRefusal : Description → List ℕ → Refusal → Type 0
+IsRealizabilityGameRefusal a controlled = or_game (IsLargeFault a controlled)
     (or_task (IsPartingFault a controlled) (or_memory never))

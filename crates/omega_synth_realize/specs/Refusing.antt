@@ -17,7 +17,7 @@ use Rattle.omega_lang_runs.specs.Lasso.{IsStart}
 use Rattle.omega_hoa_edges.specs.Determinism.{AreExclusiveBelow, IsDeterministic}
 use Rattle.omega_hoa_edges.specs.Refusing.{IsFirstClash, IsFirstUndecided, IsSecondStart}
 use Rattle.omega_synth_rounds.specs.declared.rounds.Rounds.{Rounds}
-use Rattle.omega_synth_realize.specs.Solving.{IsUnsolved}
+use Rattle.omega_synth_realize.specs.Solving.{IsRoundsLiftingFault}
 use Rattle.omega_synth_game.specs.Laws.{IsParted}
 use Rattle.omega_synth_game.specs.Making.{IsMakingFault}
 use Rattle.omega_synth_game.specs.Sizes.{IsGameSmall, IsSizeFault}
@@ -32,8 +32,9 @@ abbrev pub HasParityKind : Description → Type 0
 HasParityKind a = (kind : ParityKind) × HasKind a (kinds.Parity kind)
 
 -- no two edges of a state can be taken at one letter, or from some state on that is not judged
-abbrev pub HasNoClash : Description → Type 0
-HasNoClash a = AreExclusiveBelow a a.states ⊎ ((fault : TaskFault) × IsFirstUndecided a fault)
+abbrev pub HasNoClashBeforeUndecided : Description → Type 0
+HasNoClashBeforeUndecided a =
+    AreExclusiveBelow a a.states ⊎ ((fault : TaskFault) × IsFirstUndecided a fault)
 
 -- the fault of an automaton of which the question is not asked
 pub data IsJudgingFault (a : Description) : TaskFault → Type 0 where
@@ -41,13 +42,13 @@ pub data IsJudgingFault (a : Description) : TaskFault → Type 0 where
   second_start : (state : ℕ) → has_universal_branching a ≡ false → IsSecondStart a state
       → IsJudgingFault a (NotDeterministic state)
   clash : (state : ℕ) → IsSingle a → IsFirstClash a state → IsJudgingFault a (NotDeterministic state)
-  no_kind : IsSingle a → HasNoClash a → (HasParityKind a → ⊥) → IsJudgingFault a NotParity
+  no_kind : IsSingle a → HasNoClashBeforeUndecided a → (HasParityKind a → ⊥) → IsJudgingFault a NotParity
   undecided : (fault : TaskFault) → IsSingle a → IsFirstUndecided a fault → HasParityKind a
       → IsJudgingFault a fault
 
 -- the refusal of such an automaton: such a fault, or want of memory
-abbrev pub IsUnjudgeable : Description → Refusal → Type 0
-IsUnjudgeable a = or_task (IsJudgingFault a) (or_memory never)
+abbrev pub IsPosingRefusal : Description → Refusal → Type 0
+IsPosingRefusal a = or_task (IsJudgingFault a) (or_memory never)
 
 -- the question can be asked: the automaton is deterministic, and its acceptance is of a parity kind
 pub record IsJudgeable (a : Description) : Type 0 where
@@ -82,30 +83,30 @@ abbrev pub HasNoLargeGame : Description → List ℕ → Type 0
 HasNoLargeGame a controlled = (a.starts ≡ []) ⊎ IsGameSmall a controlled
 
 -- the refusal by which there are no rounds
-abbrev pub IsUnparted : Description → List ℕ → Refusal → Type 0
-IsUnparted a controlled =
+abbrev pub IsPartingRefusal : Description → List ℕ → Refusal → Type 0
+IsPartingRefusal a controlled =
     or_game (IsLargeFault a controlled) (or_task (IsPartingFault a controlled) (or_memory never))
 
 -- lifting in the game of rounds of the automaton, from its start, within the budget has this fault
-pub record IsUnsolvedFault (a : Description) (controlled : List ℕ) (budget : ℕ)
+pub record IsLiftingFaultOf (a : Description) (controlled : List ℕ) (budget : ℕ)
     (fault : TaskFault) : Type 0 where
   pub rounds : Rounds
   pub letters : List (List ℕ)
   pub start : ℕ
   pub parted : IsParted a controlled rounds letters start
-  pub is : IsUnsolved rounds start budget fault
+  pub is : IsRoundsLiftingFault rounds start budget fault
 
 -- the refusal of rounds that are not decided
-abbrev pub IsUndecidedRounds : Description → List ℕ → ℕ → Refusal → Type 0
-IsUndecidedRounds a controlled budget = or_game (IsLargeFault a controlled)
-    (or_task (IsUnsolvedFault a controlled budget) (or_memory never))
+abbrev pub IsOutcomeRefusalOf : Description → List ℕ → ℕ → Refusal → Type 0
+IsOutcomeRefusalOf a controlled budget = or_game (IsLargeFault a controlled)
+    (or_task (IsLiftingFaultOf a controlled budget) (or_memory never))
 
 -- a fault of the task: there are no rounds, or they are not solved within the budget
 abbrev pub IsRealizingFault : Description → List ℕ → ℕ → TaskFault → Type 0
 IsRealizingFault a controlled budget fault =
-    IsPartingFault a controlled fault ⊎ IsUnsolvedFault a controlled budget fault
+    IsPartingFault a controlled fault ⊎ IsLiftingFaultOf a controlled budget fault
 
 -- the refusal: the game is too large, or such a fault, or want of memory
-abbrev pub IsUnrealized : Description → List ℕ → ℕ → Refusal → Type 0
-IsUnrealized a controlled budget = or_game (IsLargeFault a controlled)
+abbrev pub IsRealizabilityRefusal : Description → List ℕ → ℕ → Refusal → Type 0
+IsRealizabilityRefusal a controlled budget = or_game (IsLargeFault a controlled)
     (or_task (IsRealizingFault a controlled budget) (or_memory never))

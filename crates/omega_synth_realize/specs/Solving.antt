@@ -12,6 +12,7 @@ use Rattle.omega_game_values.specs.declared.player.Player.TheVariants.{One, Zero
 use Rattle.omega_measure.specs.Table.{is_too_wide}
 use Rattle.omega_solve.specs.budget.Observing.{AreMade}
 use Rattle.omega_solve.specs.budget.Within.{GoesOnAfter}
+use Rattle.omega_solve.specs.Turns.{IsNarrow}
 use Rattle.omega_synth_rounds.specs.Rounds.{AreMetAnswers, IsAnswering, IsAsking}
 use Rattle.omega_synth_rounds.specs.RoundsGame.{IsRoundsFault, IsRoundsGame}
 use Rattle.omega_synth_rounds.specs.declared.rounds.Rounds.{Rounds}
@@ -25,10 +26,6 @@ IsOutcome rounds start (Answered kept) = IsAnswering rounds start kept
     × IsStrictlyIncreasing kept × AreMetAnswers rounds start kept
 IsOutcome rounds start (Asked kept asked) =
     IsAsking rounds start kept asked × IsStrictlyIncreasing kept × AreMetAnswers rounds start kept
-
--- the game is too wide for neither player
-abbrev pub IsNarrow : List Node → Type 0
-IsNarrow game = (player : Player) → is_too_wide player (priorities game) ≡ false
 
 -- a lift is due when the budget is used up: for player 0, or for player 1 where player 0 does not win from the start
 abbrev pub IsBudgetShort : List Node → ℕ → ℕ → Type 0
@@ -44,8 +41,8 @@ IsLiftingFault game start budget Budget = IsNarrow game × IsBudgetShort game st
 IsLiftingFault game start budget fault = ⊥
 
 -- the refusal of a game that is too wide for one of the players
-abbrev pub IsWide : List Node → Refusal → Type 0
-IsWide game = or_task (λ fault. (fault ≡ TooWide)
+abbrev pub IsWidthRefusal : List Node → Refusal → Type 0
+IsWidthRefusal game = or_task (λ fault. (fault ≡ TooWide)
     × ((player : Player) × (is_too_wide player (priorities game) ≡ true))) never
 
 -- the refusal of lifting in the game: such a fault, or want of memory
@@ -54,15 +51,15 @@ IsLiftingRefusal game start budget =
     or_task (IsLiftingFault game start budget) (or_memory never)
 
 -- lifting in the game of the rounds from a start has this fault
-pub record IsUnsolved (rounds : Rounds) (start budget : ℕ) (fault : TaskFault) : Type 0 where
+pub record IsRoundsLiftingFault (rounds : Rounds) (start budget : ℕ) (fault : TaskFault) : Type 0 where
   pub game : List Node
   pub game_is : IsRoundsGame rounds game
   pub lifting : IsLiftingFault game start budget fault
 
 -- the refusal of rounds that are not decided: the game is too large, or lifting has a fault, or want of memory
-abbrev pub IsUndecided : Rounds → ℕ → ℕ → Refusal → Type 0
-IsUndecided rounds start budget =
-    or_game (IsRoundsFault rounds) (or_task (IsUnsolved rounds start budget) (or_memory never))
+abbrev pub IsOutcomeRefusal : Rounds → ℕ → ℕ → Refusal → Type 0
+IsOutcomeRefusal rounds start budget =
+    or_game (IsRoundsFault rounds) (or_task (IsRoundsLiftingFault rounds start budget) (or_memory never))
 
 -- runs were made for player 0 alone, or for player 0 and then for player 1
 abbrev pub AreLifted : Option Refusal → List Player → Type 0

@@ -9,7 +9,7 @@ ghost use Rattle.omega_synth_game.specs.Sizes.{IsGameSmall};
 ghost use Rattle.omega_synth_realize.specs.Lifting.{LiftsAutomaton, LiftsParted};
 ghost use Rattle.omega_synth_realize.specs.Realizing.{IsRealizability};
 ghost use Rattle.omega_synth_realize.specs.Refusing.{HasNoLargeGame, IsJudgeable};
-ghost use Rattle.omega_synth_realize.specs.Refusing.{IsUndecidedRounds, IsUnrealized};
+ghost use Rattle.omega_synth_realize.specs.Refusing.{IsOutcomeRefusalOf, IsRealizabilityRefusal};
 
 use crate::parting::{Parted, parted_rounds};
 use crate::realizability::Realizability;
@@ -47,7 +47,7 @@ pub fn realize(
     ensures realizability { IfOk result (IsRealizability automaton.now controlled.now) }
     ensures judgeable { OnOk result (IsJudgeable automaton.now) }
     ensures small { OnOk result (HasNoLargeGame automaton.now controlled.now) }
-    ensures refused { IfErr result (IsUnrealized automaton.now controlled.now most_lifts) }
+    ensures refused { IfErr result (IsRealizabilityRefusal automaton.now controlled.now most_lifts) }
 {
     let found = parted_rounds(alloc, automaton, controlled)?;
     match found {
@@ -69,7 +69,7 @@ fn realize_parted(
     requires judgeable { IsJudgeable automaton.now }
     ensures realizability { IfOk result (IsRealizability automaton.now controlled.now) }
     ensures small { OnOk result (IsGameSmall automaton.now controlled.now) }
-    ensures refused { IfErr result (IsUndecidedRounds automaton.now controlled.now most_lifts) }
+    ensures refused { IfErr result (IsOutcomeRefusalOf automaton.now controlled.now most_lifts) }
 {
     let outcome = solve_rounds(alloc, &parted.rounds, parted.start)?;
     realizability_of(alloc, automaton, controlled, parted, outcome)
@@ -92,7 +92,7 @@ pub fn realize_by_lifting<L, W: Reporter<L>>(
     ensures realizability { IfOk result (IsRealizability automaton.now controlled.now) }
     ensures judgeable { OnOk result (IsJudgeable automaton.now) }
     ensures small { OnOk result (HasNoLargeGame automaton.now controlled.now) }
-    ensures refused { IfErr result (IsUnrealized automaton.now controlled.now budget) }
+    ensures refused { IfErr result (IsRealizabilityRefusal automaton.now controlled.now budget) }
     ensures reported { IsObserved (LiftsAutomaton automaton.now controlled.now) (refusal_in result)
         (W.tells reporter.now) (W.pace reporter.now) budget observer.old observer.new }
 {
@@ -122,7 +122,7 @@ fn lift_parted<L, W: Reporter<L>>(
     requires budget { budget ≤ most_lifts }
     ensures realizability { IfOk result (IsRealizability automaton.now controlled.now) }
     ensures small { OnOk result (IsGameSmall automaton.now controlled.now) }
-    ensures refused { IfErr result (IsUndecidedRounds automaton.now controlled.now budget) }
+    ensures refused { IfErr result (IsOutcomeRefusalOf automaton.now controlled.now budget) }
     ensures reported { IsObserved (LiftsParted automaton.now controlled.now) (refusal_in result)
         (W.tells reporter.now) (W.pace reporter.now) budget observer.old observer.new }
 {

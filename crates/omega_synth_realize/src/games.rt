@@ -5,7 +5,7 @@ ghost use Rattle.omega_synth_rounds.specs.Naming.{IsNamedGame};
 ghost use Rattle.omega_synth_rounds.specs.Rounds.{IsRounds};
 ghost use Rattle.omega_synth_game.specs.Laws.{IsParted};
 ghost use Rattle.omega_synth_game.specs.Sizes.{IsGameSmall};
-ghost use Rattle.omega_synth_realize.specs.Gaming.{IsPartedGame, IsRealizabilityGame, IsUngamed, no_rounds};
+ghost use Rattle.omega_synth_realize.specs.Gaming.{IsPartedGame, IsRealizabilityGame, IsRealizabilityGameRefusal, no_rounds};
 ghost use Rattle.omega_synth_realize.specs.Refusing.{HasNoLargeGame, IsJudgeable};
 
 use crate::parting::{Parted, parted_rounds};
@@ -28,7 +28,7 @@ pub fn realizability_game(
 ) -> Result<Game, Refusal>
     ensures game { IfOk result (IsRealizabilityGame automaton.now controlled.now) }
     ensures small { OnOk result (HasNoLargeGame automaton.now controlled.now) }
-    ensures refused { IfErr result (IsUngamed automaton.now controlled.now) }
+    ensures refused { IfErr result (IsRealizabilityGameRefusal automaton.now controlled.now) }
 {
     let found = parted_rounds(alloc, automaton, controlled)?;
     match found {
@@ -50,7 +50,7 @@ fn game_from(
     requires judgeable { IsJudgeable automaton.now }
     ensures game { IfOk result (IsPartedGame automaton.now _controlled.now) }
     ensures small { OnOk result (IsGameSmall automaton.now _controlled.now) }
-    ensures refused { IfErr result (IsUngamed automaton.now _controlled.now) }
+    ensures refused { IfErr result (IsRealizabilityGameRefusal automaton.now _controlled.now) }
 {
     let whole = named_rounds_game(alloc, &parted.rounds)?;
     part(alloc, &whole, parted.start)
@@ -59,7 +59,7 @@ fn game_from(
 /// Makes the game of no rounds.
 fn sink_alone(alloc: Global, _automaton: &Automaton, _controlled: &[u32]) -> Result<Game, Refusal>
     ensures game { IfOk result (IsNamedGame no_rounds) }
-    ensures refused { IfErr result (IsUngamed _automaton.now _controlled.now) }
+    ensures refused { IfErr result (IsRealizabilityGameRefusal _automaton.now _controlled.now) }
 {
     let none = without_states(alloc);
     named_rounds_game(alloc, &none)

@@ -8,8 +8,9 @@ ghost use Rattle.omega_solve.specs.budget.Observing.{IsObserved, ReportsSolving,
 ghost use Rattle.omega_solve.specs.budget.Within.{IsSolvingRefusal};
 ghost use Rattle.omega_synth_rounds.specs.Rounds.{IsRounds};
 ghost use Rattle.omega_synth_rounds.specs.RoundsGame.{FitsAGame, IsRoundsGame};
-ghost use Rattle.omega_synth_realize.specs.Solving.{IsLiftingRefusal, IsNarrow, IsOutcome};
-ghost use Rattle.omega_synth_realize.specs.Solving.{IsUndecided, IsWide, LiftsGame, LiftsRounds};
+ghost use Rattle.omega_solve.specs.Turns.{IsNarrow};
+ghost use Rattle.omega_synth_realize.specs.Solving.{IsLiftingRefusal, IsOutcome};
+ghost use Rattle.omega_synth_realize.specs.Solving.{IsOutcomeRefusal, IsWidthRefusal, LiftsGame, LiftsRounds};
 
 use crate::outcome::Outcome;
 use crate::winning::{controller_outcome, counter_strategy_outcome};
@@ -42,7 +43,7 @@ pub fn lift_rounds<L, W: Reporter<L>>(
     requires budget { budget ≤ most_lifts }
     ensures outcome { IfOk result (IsOutcome rounds.now start) }
     ensures fits { OnOk result (FitsAGame rounds.now) }
-    ensures refused { IfErr result (IsUndecided rounds.now start budget) }
+    ensures refused { IfErr result (IsOutcomeRefusal rounds.now start budget) }
     ensures reported { IsObserved (LiftsRounds rounds.now) (refusal_in result)
         (W.tells reporter.now) (W.pace reporter.now) budget observer.old observer.new }
 {
@@ -66,7 +67,7 @@ pub(crate) fn lift_in<L, W: Reporter<L>>(
     requires start { start < length rounds.now.states }
     requires budget { budget ≤ most_lifts }
     ensures outcome { IfOk result (IsOutcome rounds.now start) }
-    ensures refused { IfErr result (IsUndecided rounds.now start budget) }
+    ensures refused { IfErr result (IsOutcomeRefusal rounds.now start budget) }
     ensures reported { IsObserved (LiftsGame game.now) (refusal_in result)
         (W.tells reporter.now) (W.pace reporter.now) budget observer.old observer.new }
 {
@@ -80,7 +81,7 @@ pub(crate) fn lift_in<L, W: Reporter<L>>(
 /// Fails with [TaskFault::TooWide] alone, if the game is too wide for one of the players.
 fn fits_both(game: &ForwardGame) -> Result<(), Refusal>
     ensures narrow { IsOk result → IsNarrow game.now }
-    ensures refused { IfErr result (IsWide game.now) }
+    ensures refused { IfErr result (IsWidthRefusal game.now) }
 {
     fits_for(game, Player::Zero)?;
     fits_for(game, Player::One)
@@ -89,7 +90,7 @@ fn fits_both(game: &ForwardGame) -> Result<(), Refusal>
 /// Fails with [TaskFault::TooWide] alone, if the game is too wide for `player`.
 fn fits_for(game: &ForwardGame, player: Player) -> Result<(), Refusal>
     ensures narrow { IsOk result → is_too_wide player (priorities game.now) ≡ false }
-    ensures refused { IfErr result (IsWide game.now) }
+    ensures refused { IfErr result (IsWidthRefusal game.now) }
 {
     if fits(game, player) {
         Ok(())

@@ -6,7 +6,7 @@ ghost use Rattle.omega_hoa_acceptance.specs.declared.kind.AccKind.TheVariants as
 ghost use Rattle.omega_synth_rounds.specs.Rounds.{IsRounds};
 ghost use Rattle.omega_lang_runs.specs.Lasso.{IsStart};
 ghost use Rattle.omega_synth_game.specs.Laws.{IsParted};
-ghost use Rattle.omega_synth_realize.specs.Refusing.{IsJudgeable, IsUnparted};
+ghost use Rattle.omega_synth_realize.specs.Refusing.{IsJudgeable, IsPartingRefusal};
 
 use crate::posing::deterministic_parity_kind;
 use omega_hoa_acceptance::ParityKind;
@@ -36,7 +36,7 @@ pub(crate) fn parted_rounds(
     ensures rounds { IfOk result (λ found. IfSome found (λ parted. IsRounds parted.rounds)) }
     ensures none { IfOk result (λ found. IfNone found (automaton.now.starts ≡ [])) }
     ensures judgeable { OnOk result (IsJudgeable automaton.now) }
-    ensures refused { IfErr result (IsUnparted automaton.now controlled.now) }
+    ensures refused { IfErr result (IsPartingRefusal automaton.now controlled.now) }
 {
     let kind = deterministic_parity_kind(alloc, automaton)?;
     automaton.keeps_limits();
@@ -64,7 +64,7 @@ fn parted_from(
     ensures parted { IfOk result
         (λ parted. IsParted automaton.now controlled.now parted.rounds parted.letters parted.start) }
     ensures rounds { IfOk result (λ parted. IsRounds parted.rounds) }
-    ensures refused { IfErr result (IsUnparted automaton.now controlled.now) }
+    ensures refused { IfErr result (IsPartingRefusal automaton.now controlled.now) }
 {
     automaton.keeps_limits();
     let made = rounds_of(alloc, automaton, kind, controlled)?;

@@ -5,7 +5,7 @@ ghost use Rattle.omega_hoa_automaton.specs.AcceptanceKind.{HasKind};
 ghost use Rattle.omega_hoa_edges.specs.Refusing.{AreUnjudged};
 ghost use Rattle.omega_hoa_acceptance.specs.Names.{IsNotParity};
 ghost use Rattle.omega_hoa_acceptance.specs.declared.kind.AccKind.TheVariants as kinds;
-ghost use Rattle.omega_synth_realize.specs.Refusing.{HasParityKind, IsJudgeable, IsSingle, IsUnjudgeable};
+ghost use Rattle.omega_synth_realize.specs.Refusing.{HasParityKind, IsJudgeable, IsSingle, IsPosingRefusal};
 ghost use Rattle.omega_synth_realize.specs.private.Undecided.{is_undecided};
 
 use omega_hoa_acceptance::{ParityKind, parity_of};
@@ -25,7 +25,7 @@ pub(crate) fn deterministic_parity_kind(
 ) -> Result<ParityKind, Refusal>
     ensures judgeable { OnOk result (IsJudgeable automaton.now) }
     ensures kind { IfOk result (λ kind. HasKind automaton.now (kinds.Parity kind)) }
-    ensures refused { IfErr result (IsUnjudgeable automaton.now) }
+    ensures refused { IfErr result (IsPosingRefusal automaton.now) }
 {
     if has_universal_branching(automaton) {
         return Err(Refusal::Task(TaskFault::UniversalBranch));
@@ -45,7 +45,7 @@ pub(crate) fn deterministic_parity_kind(
 fn unless_no_kind(automaton: &Automaton, refusal: Refusal) -> Refusal
     requires single { IsSingle automaton.now }
     requires unjudged { AreUnjudged automaton.now refusal }
-    ensures { IsUnjudgeable automaton.now result }
+    ensures { IsPosingRefusal automaton.now result }
 {
     if is_undecided(refusal) {
         match kind_of(automaton) {

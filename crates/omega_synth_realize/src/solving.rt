@@ -3,7 +3,7 @@ ghost use Rattle.omega_game_values.specs.Solution.{IsExactSolution};
 ghost use Rattle.omega_solve.specs.Limits.{most_lifts};
 ghost use Rattle.omega_synth_rounds.specs.Rounds.{IsRounds};
 ghost use Rattle.omega_synth_rounds.specs.RoundsGame.{FitsAGame, IsRoundsGame};
-ghost use Rattle.omega_synth_realize.specs.Solving.{IsOutcome, IsUndecided};
+ghost use Rattle.omega_synth_realize.specs.Solving.{IsOutcome, IsOutcomeRefusal};
 
 use crate::lifting::lift_in;
 use crate::outcome::Outcome;
@@ -26,7 +26,7 @@ pub fn solve_rounds(alloc: Global, rounds: &Rounds, start: u32) -> Result<Outcom
     requires start { start < length rounds.now.states }
     ensures outcome { IfOk result (IsOutcome rounds.now start) }
     ensures fits { OnOk result (FitsAGame rounds.now) }
-    ensures refused { IfErr result (IsUndecided rounds.now start most_lifts) }
+    ensures refused { IfErr result (IsOutcomeRefusal rounds.now start most_lifts) }
 {
     let game = rounds_game(alloc, rounds)?;
     solve_in(alloc, rounds, &game, start)
@@ -38,7 +38,7 @@ fn solve_in(alloc: Global, rounds: &Rounds, game: &Game, start: u32) -> Result<O
     requires game { IsRoundsGame rounds.now game.now }
     requires start { start < length rounds.now.states }
     ensures outcome { IfOk result (IsOutcome rounds.now start) }
-    ensures refused { IfErr result (IsUndecided rounds.now start most_lifts) }
+    ensures refused { IfErr result (IsOutcomeRefusal rounds.now start most_lifts) }
 {
     match solve_by_search(alloc, game)? {
         Some(solution) => {

@@ -12,13 +12,13 @@ use Rattle.omega_graph.specs.declared.edge.Edge.{Edge}
 use Rattle.omega_lang_runs.specs.Lasso.{IsStart}
 use Rattle.omega_graph.specs.Walks.{IsEdgeWalk}
 use Rattle.omega_graph.proofs.ClosedWalking.{joined}
-use Rattle.omega_synth_text.specs.Reaching.{IsKeptEdge, IsReached, begins, goes_on, TellsReached}
+use Rattle.omega_synth_text.specs.Reaching.{KeptEdgeLeads, IsReached, begins, goes_on, TellsReached}
 use Rattle.omega_synth_text.specs.private.Parts.{flag}
 use Rattle.omega_synth_text.specs.private.Reached.{AreStarts, HasNoEnds, IsEndsOf, IsKeptGraph}
 
 -- the edges of a graph are the kept ones
 abbrev pub HasKept : Description → List ℕ → List Edge → Type 0
-HasKept a kept edges = (from to : ℕ) → Contains edges (edge_of from to) ↔ IsKeptEdge a kept from to
+HasKept a kept edges = (from to : ℕ) → Contains edges (edge_of from to) ↔ KeptEdgeLeads a kept from to
 
 -- no edges at first
 pub none_kept : (a : Description) → HasKept a [] []
@@ -34,7 +34,7 @@ module _ (a : Description) (kept : List ℕ) (index number : ℕ) (below : index
   more : take (index + 1) kept ≡ take index kept ++ number ∷ []
   more = take_more kept index 0 below ∙ ap (λ (x : ℕ). take index kept ++ x ∷ []) (sym here)
 
-  weaker : (from to : ℕ) → IsKeptEdge a (take index kept) from to → IsKeptEdge a (take (index + 1) kept) from to
+  weaker : (from to : ℕ) → KeptEdgeLeads a (take index kept) from to → KeptEdgeLeads a (take (index + 1) kept) from to
   weaker from to is = record {
     number = is.number;
     edge = is.edge;
@@ -44,10 +44,10 @@ module _ (a : Description) (kept : List ℕ) (index number : ℕ) (below : index
     enters = is.enters;
   }
 
-  earlier : (from to : ℕ) → (is : IsKeptEdge a (take (index + 1) kept) from to) → Contains (take index kept) is.number ⊎ (number ≡ is.number)
+  earlier : (from to : ℕ) → (is : KeptEdgeLeads a (take (index + 1) kept) from to) → Contains (take index kept) is.number ⊎ (number ≡ is.number)
   earlier from to is = Contains-push_cases (take index kept) number is.number (subst (λ (xs : List ℕ). Contains xs is.number) more is.is_kept)
 
-  before : (from to : ℕ) → (is : IsKeptEdge a (take (index + 1) kept) from to) → Contains (take index kept) is.number → IsKeptEdge a (take index kept) from to
+  before : (from to : ℕ) → (is : KeptEdgeLeads a (take (index + 1) kept) from to) → Contains (take index kept) is.number → KeptEdgeLeads a (take index kept) from to
   before from to is has = record {
     number = is.number;
     edge = is.edge;
@@ -67,7 +67,7 @@ module _ (a : Description) (kept : List ℕ) (index number : ℕ) (below : index
     ],
   )
     where
-      absent : (is : IsKeptEdge a (take (index + 1) kept) from to) → number ≡ is.number → ⊥
+      absent : (is : KeptEdgeLeads a (take (index + 1) kept) from to) → number ≡ is.number → ⊥
       absent is same =
           let e : None ≡ Some is.edge = sym none ∙ (ap (edge_at a) same ∙ is.numbered) in cc
 
@@ -85,7 +85,7 @@ module _ (a : Description) (kept : List ℕ) (index number : ℕ) (below : index
     ],
   )
     where
-      added : one ≡ from → two ≡ to → IsKeptEdge a (take (index + 1) kept) from to
+      added : one ≡ from → two ≡ to → KeptEdgeLeads a (take (index + 1) kept) from to
       added left right = record {
         number = number;
         edge = ends.edge;
@@ -95,7 +95,7 @@ module _ (a : Description) (kept : List ℕ) (index number : ℕ) (below : index
         enters = ends.enters ∙ ap (λ (x : ℕ). x ∷ []) right;
       }
 
-      last : (is : IsKeptEdge a (take (index + 1) kept) from to) → number ≡ is.number → Contains (edges ++ edge_of one two ∷ []) (edge_of from to)
+      last : (is : KeptEdgeLeads a (take (index + 1) kept) from to) → number ≡ is.number → Contains (edges ++ edge_of one two ∷ []) (edge_of from to)
       last is same =
           let e : Some ends.edge ≡ Some is.edge = sym ends.numbered ∙ (ap (edge_at a) same ∙ is.numbered) in
           let edge : ends.edge ≡ is.edge = cc in
@@ -165,7 +165,7 @@ module _ (a : Description) (kept : List ℕ) (graph : Shape) (starts : List ℕ)
       subst (λ (xs : List (List ℕ)). Contains xs (state ∷ [])) (sym are_starts.alone) (has.0, within, e)
 
   -- a kept edge is an edge of the graph
-  step_of : (from to : ℕ) → IsKeptEdge a kept from to → (k : ℕ) × IsEdgeWalk (marked graph marks) (listed numbers) from (k ∷ []) to
+  step_of : (from to : ℕ) → KeptEdgeLeads a kept from to → (k : ℕ) × IsEdgeWalk (marked graph marks) (listed numbers) from (k ∷ []) to
   step_of from to edge =
       let has : Contains graph.edges (edge_of from to) = (is_graph.edges_are from to).1 edge in
       let e : ends_at graph has.0 ≡ edge_of from to = default_free graph.edges has.0 (edge_of 0 0) (edge_of from to) has.1 ∙ has.2 in (
@@ -174,11 +174,11 @@ module _ (a : Description) (kept : List ℕ) (graph : Shape) (starts : List ℕ)
       )
 
   -- an edge of the graph is a kept edge
-  edge_in : (from k : ℕ) → IsTrue (listed numbers k) → (ends_at graph k).from ≡ from → IsKeptEdge a kept from (ends_at graph k).to
+  edge_in : (from k : ℕ) → IsTrue (listed numbers k) → (ends_at graph k).from ≡ from → KeptEdgeLeads a kept from (ends_at graph k).to
   edge_in from k is leaves =
       let below : k < length graph.edges = of_range (length graph.edges) k (has_listed numbers k is) in
       let at : Contains graph.edges (ends_at graph k) = (k, below, default_free graph.edges k (ends_at graph k) (edge_of 0 0) below) in
-      subst (λ (x : ℕ). IsKeptEdge a kept x (ends_at graph k).to) leaves ((is_graph.edges_are (ends_at graph k).from (ends_at graph k).to).0 at)
+      subst (λ (x : ℕ). KeptEdgeLeads a kept x (ends_at graph k).to) leaves ((is_graph.edges_are (ends_at graph k).from (ends_at graph k).to).0 at)
 
   -- a state that is reached is at the end of a walk
   pub walk_to : (state : ℕ) → IsReached a kept state → IsReachedAlong (marked graph marks) (listed (range_with_len 0 (length graph.edges))) starts state

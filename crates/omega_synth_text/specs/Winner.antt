@@ -38,8 +38,8 @@ letter_label held [] = constant true
 letter_label held (p ∷ others) = with_literals held (literal (held p) p) others
 
 -- the letter of a state, which is given by the propositions that hold
-abbrev pub letter_of : List ℕ → List (List ℕ) → ℕ → LabelTree
-letter_of inputs letters state = letter_label (listed (slice_index_or letters state [])) inputs
+abbrev pub state_letter : List ℕ → List (List ℕ) → ℕ → LabelTree
+state_letter inputs letters state = letter_label (listed (slice_index_or letters state [])) inputs
 
 -- a label, joined with a letter if there is one
 abbrev pub demanding : Option LabelTree → LabelTree → LabelTree
@@ -136,4 +136,4 @@ IsControllerText a controlled kept = IsWinnerText a controlled kept (λ state. N
 abbrev pub IsCounterStrategyText : Description → (controlled kept : List ℕ)
     → List (List ℕ) → List ℕ → Type 0
 IsCounterStrategyText a controlled kept letters =
-    IsWinnerText a controlled kept (λ state. Some (letter_of (inputs_of a controlled) letters state))
+    IsWinnerText a controlled kept (λ state. Some (state_letter (inputs_of a controlled) letters state))

@@ -7,7 +7,7 @@ ghost use Rattle.omega_hoa_automaton.specs.Automaton.{edge_count};
 ghost use Rattle.omega_hoa_automaton.specs.declared.edge.Edge.{Edge as edge_item};
 ghost use Rattle.omega_canon.specs.BodyText.{body_text, edge_line, state_text};
 ghost use Rattle.omega_canon.specs.Parts.{string_part};
-ghost use Rattle.omega_synth_text.specs.Winner.{letter_of};
+ghost use Rattle.omega_synth_text.specs.Winner.{state_letter};
 ghost use Rattle.omega_synth_text.specs.private.Parts as parts;
 ghost use Rattle.omega_synth_text.specs.private.Texts.{bytes_of};
 
@@ -109,7 +109,7 @@ fn write_edges(
 /// Returns the text of the letter of `state`, if there are letters.
 fn state_letter(alloc: Global, winner: &Winner<'_>, state: u32) -> Result<Vec<u8>, Refusal>
     ensures letter { IfOk result (λ text. winner.now.lettered ≡ true
-        → text.items ≡ bytes_of (letter_of winner.now.inputs.now winner.now.letters.now state)) }
+        → text.items ≡ bytes_of (state_letter winner.now.inputs.now winner.now.letters.now state)) }
     ensures memory { IsOkUnless result Refusal.Memory }
 {
     if winner.lettered {
@@ -132,7 +132,7 @@ fn write_edge(
     requires state { parts.IsPlainState winner.now.automaton.now.states state.now }
     requires at { at < length state.now.edges }
     requires letter { winner.now.lettered ≡ true → letter.now
-        ≡ bytes_of (letter_of winner.now.inputs.now winner.now.letters.now state.now.number) }
+        ≡ bytes_of (state_letter winner.now.inputs.now winner.now.letters.now state.now.number) }
     ensures text { OnOk result ((d : edge_item) → out.new.items ≡ out.old.items
         ++ edge_line (parts.edge_by winner.now state.now at (slice_index_or state.now.edges at d))) }
     ensures memory { IsOkUnless result Refusal.Memory }
@@ -157,7 +157,7 @@ fn write_demanding(
     out: &mut Vec<u8>,
 ) -> Result<(), Refusal>
     requires { winner.now.lettered ≡ true → letter.now
-        ≡ bytes_of (letter_of winner.now.inputs.now winner.now.letters.now state.now.number) }
+        ≡ bytes_of (state_letter winner.now.inputs.now winner.now.letters.now state.now.number) }
     ensures text { OnOk result (out.new.items ≡ out.old.items
         ++ bytes_of (parts.label_by winner.now state.now at edge.now)) }
     ensures memory { IsOkUnless result Refusal.Memory }

@@ -3,7 +3,7 @@
 ghost use Rattle.std.specs.Prelude.{◌≡◌, [], ◌∷◌, ◌++◌, IfOk, IsOkUnless, OnOk, filter, if◌then◌else◌, not};
 ghost use Rattle.std.specs.List.{range_with_len};
 ghost use Rattle.omega_graph.specs.Graph.{listed};
-ghost use Rattle.omega_synth_text.specs.Winner.{letter_label, letter_of};
+ghost use Rattle.omega_synth_text.specs.Winner.{letter_label, state_letter};
 ghost use Rattle.omega_synth_text.specs.private.Texts.{bytes_of, literal_bytes};
 
 use omega_text::{Numbers, Refusal, write_number};
@@ -49,7 +49,7 @@ pub(crate) fn letter_text(
     state: u32,
 ) -> Result<Vec<u8>, Refusal>
     ensures text { IfOk result
-        (λ text. text.items ≡ bytes_of (letter_of inputs.now letters.now state)) }
+        (λ text. text.items ≡ bytes_of (state_letter inputs.now letters.now state)) }
     ensures memory { IsOkUnless result Refusal.Memory }
 {
     let mut text = Vec::new(alloc);

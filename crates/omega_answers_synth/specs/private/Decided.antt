@@ -7,7 +7,7 @@ use Rattle.omega_synth_realize.specs.Refusing.{IsJudgeable}
 use Rattle.omega_answers_synth.specs.declared.decided.Decided.{Decided}
 
 -- the answer is right, where the system controls the propositions that the automaton's item lists
-pub record IsDecided (decided : Decided) : Type 0 where
+pub record IsDecidedRightly (decided : Decided) : Type 0 where
   pub stated : IsStated decided.question.automaton decided.question.controlled
   pub judgeable : IsJudgeable decided.question.automaton
   pub realizability : IsRealizability decided.question.automaton
@@ -16,4 +16,4 @@ pub record IsDecided (decided : Decided) : Type 0 where
 -- the automaton is that of the text
 pub record IsDecidedText (text : List ℕ) (found : Decided) : Type 0 where
   pub read : IsAutomatonText text found.question.automaton
-  pub decided : IsDecided found
+  pub decided : IsDecidedRightly found

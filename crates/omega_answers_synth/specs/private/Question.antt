@@ -12,5 +12,5 @@ pub record IsQuestion (text : List ℕ) (question : Question) : Type 0 where
   pub stated : IsStated question.automaton question.controlled
 
 -- the refusal of a text that states no question: that of the text, or else that of the item
-abbrev pub IsUnasked : List ℕ → Refusal → Type 0
-IsUnasked = IsRefusalOfText (λ a. IsMisstated (HasStated a))
+abbrev pub IsQuestionRefusal : List ℕ → Refusal → Type 0
+IsQuestionRefusal = IsRefusalOfText (λ a. IsMisstated (HasStated a))

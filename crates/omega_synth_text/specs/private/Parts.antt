@@ -7,7 +7,7 @@ use Rattle.omega_hoa_automaton.specs.declared.edge.Edge.{Edge}
 use Rattle.omega_hoa_automaton.specs.declared.state.State.{State}
 use Rattle.omega_hoa_edges.specs.Labels.{label_at}
 use Rattle.omega_synth_text.specs.Winner.{demanding, kept_edge, kept_edges, kept_state}
-use Rattle.omega_synth_text.specs.Winner.{kept_states, letter_of, number_of, winner}
+use Rattle.omega_synth_text.specs.Winner.{kept_states, state_letter, number_of, winner}
 use Rattle.omega_synth_text.specs.declared.parts.Winner.{Winner}
 
 -- whether the flag of a number is set
@@ -24,7 +24,7 @@ kept_by w = flag w.kept.now
 -- the letter of a state, if there are letters
 abbrev pub letters_for : Bool → List ℕ → List (List ℕ) → ℕ → Option LabelTree
 letters_for lettered inputs letters state =
-    if lettered then Some (letter_of inputs letters state) else None
+    if lettered then Some (state_letter inputs letters state) else None
 
 -- so it is for a winner
 abbrev pub letters_by : Winner → ℕ → Option LabelTree

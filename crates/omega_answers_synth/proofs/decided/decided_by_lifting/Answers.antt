@@ -2,7 +2,7 @@
 use Rattle.std.proofs.lemmas.Result.{err_from_is_err_and}
 use Rattle.omega_solve.proofs.within_budget.Observed.{none_observed, observed_alike, observed_as, spares}
 use Rattle.omega_text.specs.Cases.{or_memory}
-use Rattle.omega_answers_synth.specs.private.Question.{IsUnasked}
+use Rattle.omega_answers_synth.specs.private.Question.{IsQuestionRefusal}
 use Rattle.omega_answers_synth.proofs.Observed.{of_text, unasked_spares}
 use Rattle.omega_answers_synth.proofs.Stated.{stated_as}
 use Rattle.omega_answers_synth.proofs.Refused.{question_refused, unasked_refused}
@@ -16,7 +16,7 @@ returns-in_err-question-clause-refused g c =
 pub returns-in_err-question-clause-reported : goal.returns-in_err-question-clause-reported
 returns-in_err-question-clause-reported g c =
     observed_alike _ _ _ _ c.from_residual.result _ c.in_err-question.field-0.0 _ _ c.from_residual.ensures.1 (λ e same. same)
-    (none_observed _ _ _ _ _ _ (spares (or_memory (IsUnasked c.args.text.now)) _ c.in_err-question.ensures.refused
+    (none_observed _ _ _ _ _ _ (spares (or_memory (IsQuestionRefusal c.args.text.now)) _ c.in_err-question.ensures.refused
     (unasked_spares c.args.text.now)))
 
 pub returns-in_err-realizability-clause-refused : goal.returns-in_err-realizability-clause-refused

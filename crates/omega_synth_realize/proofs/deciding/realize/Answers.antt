@@ -2,7 +2,7 @@
 use Rattle.std.proofs.Common.{inl, inr}
 use Rattle.std.proofs.lemmas.Result.{err_from_is_err_and}
 use Rattle.omega_solve.specs.Limits.{most_lifts}
-use Rattle.omega_synth_realize.specs.Refusing.{IsUnrealized}
+use Rattle.omega_synth_realize.specs.Refusing.{IsRealizabilityRefusal}
 use Rattle.omega_synth_realize.proofs.Refused.{on_ok_of, undecided_unrealized, unparted_unrealized}
 use Rattle.omega_synth_realize.proofs.Sized.{on_ok_weaker}
 use Rattle.omega_synth_realize.proofs.Strategies.{memory_refused}
@@ -31,4 +31,4 @@ returns-in-None-clause-judgeable c = on_ok_of c.without_start.result _ c.in_ok-f
 
 pub returns-in-None-clause-refused : goal.returns-in-None-clause-refused
 returns-in-None-clause-refused c =
-    memory_refused c.without_start.result (IsUnrealized c.args.automaton.now c.args.controlled.now most_lifts) tt c.without_start.ensures.memory
+    memory_refused c.without_start.result (IsRealizabilityRefusal c.args.automaton.now c.args.controlled.now most_lifts) tt c.without_start.ensures.memory

@@ -3,7 +3,7 @@ use Rattle.std.proofs.Common.{◌≡◌, inl, inr}
 use Rattle.std.proofs.lemmas.Result.{err_from_is_err_and}
 use Rattle.omega_text.specs.declared.refusal.Refusal.TheVariants.{Memory}
 use Rattle.omega_solve.proofs.within_budget.Observed.{none_observed, observed_after, observed_alike, observed_as, spares}
-use Rattle.omega_synth_realize.specs.Refusing.{IsUnparted, IsUnrealized}
+use Rattle.omega_synth_realize.specs.Refusing.{IsPartingRefusal, IsRealizabilityRefusal}
 use Rattle.omega_synth_realize.proofs.Refused.{lifts_refused, on_ok_of, undecided_unrealized, unlifted, unparted_spares, unparted_unrealized}
 use Rattle.omega_synth_realize.proofs.Sized.{on_ok_weaker}
 use Rattle.omega_synth_realize.proofs.Strategies.{memory_refused}
@@ -18,7 +18,7 @@ pub returns-in_err-found-clause-reported : goal.returns-in_err-found-clause-repo
 returns-in_err-found-clause-reported g c =
     observed_alike _ _ _ _ c.from_residual.result _ c.in_err-found.field-0.0 _ _ c.from_residual.ensures.1 (λ e same. same)
     (none_observed _ _ _ _ _ _
-    (spares (IsUnparted c.args.automaton.now c.args.controlled.now) _ c.in_err-found.ensures.refused
+    (spares (IsPartingRefusal c.args.automaton.now c.args.controlled.now) _ c.in_err-found.ensures.refused
     (unparted_spares c.args.automaton.now c.args.controlled.now)))
 
 pub returns-in-None-clause-reported : goal.returns-in-None-clause-reported
@@ -49,4 +49,4 @@ returns-in-None-clause-judgeable g c = on_ok_of c.without_start.result _ c.in_ok
 
 pub returns-in-None-clause-refused : goal.returns-in-None-clause-refused
 returns-in-None-clause-refused g c =
-    memory_refused c.without_start.result (IsUnrealized c.args.automaton.now c.args.controlled.now c.args.budget) tt c.without_start.ensures.memory
+    memory_refused c.without_start.result (IsRealizabilityRefusal c.args.automaton.now c.args.controlled.now c.args.budget) tt c.without_start.ensures.memory

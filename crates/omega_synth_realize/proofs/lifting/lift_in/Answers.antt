@@ -3,7 +3,8 @@ use Rattle.std.proofs.Common.{◌≡◌, refl, subst}
 use Rattle.std.proofs.lemmas.Result.{err_from_is_err_and}
 use Rattle.omega_text.specs.declared.refusal.Refusal.TheVariants.{Memory}
 use Rattle.omega_solve.proofs.within_budget.Observed.{none_observed, observed_alike, spares}
-use Rattle.omega_synth_realize.specs.Solving.{IsNarrow, IsWide}
+use Rattle.omega_solve.specs.Turns.{IsNarrow}
+use Rattle.omega_synth_realize.specs.Solving.{IsWidthRefusal}
 use Rattle.omega_synth_realize.proofs.Strategies.{lifting_refused, wide_refused}
 use Rattle.omega_synth_realize.proofs.lifting.lift_in.Goals as goal
 
@@ -20,7 +21,7 @@ returns-in_err-fits_both-clause-refused g c =
 pub returns-in_err-fits_both-clause-reported : goal.returns-in_err-fits_both-clause-reported
 returns-in_err-fits_both-clause-reported g c =
     observed_alike _ _ _ _ c.from_residual.result _ c.in_err-fits_both.field-0.0 _ _ c.from_residual.ensures.1 (λ e same. same)
-    (none_observed _ _ _ _ _ _ (spares (IsWide c.forward_game.result.now) _ c.in_err-fits_both.ensures.refused (λ no. (let e = no.0 in cc))))
+    (none_observed _ _ _ _ _ _ (spares (IsWidthRefusal c.forward_game.result.now) _ c.in_err-fits_both.ensures.refused (λ no. (let e = no.0 in cc))))
 
 pub returns-in_err-reordered-clause-reported : goal.returns-in_err-reordered-clause-reported
 returns-in_err-reordered-clause-reported g c =
