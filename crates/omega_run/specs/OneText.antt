@@ -59,11 +59,6 @@ Concludes IsAnswer IsReason (Err refusal) = IsReason refusal
 abbrev pub lines_for : (word names : Bool) → Lines
 lines_for word names = record { word = word; run = names }
 
--- the answer of `realize`: whether the automaton is realizable, or with `controller` the winner's automaton
-abbrev pub IsRealizeAnswer : (controller : Bool) → List ℕ → Exit → List ℕ → Type 0
-IsRealizeAnswer false text = IsDecisionAnswer text
-IsRealizeAnswer true text = IsWinnerAnswer text
-
 -- what the command makes of the text, with this budget: how it ends and its output, or the refusal
 abbrev pub AnswersOneText : OneText → ℕ → List ℕ → Result (Exit × List ℕ) Refusal → Type 0
 AnswersOneText Show budget text = Replies (IsShowAnswer text) (IsRefusal text)
@@ -86,10 +81,14 @@ AnswersOneText (EmptySearch word names status) budget text =
 AnswersOneText Complement budget text = Replies (IsComplementAnswer text) (IsComplementRefusal text)
 AnswersOneText Trim budget text = Replies (IsTrimAnswer text) (IsTrimAnswerRefusal text)
 AnswersOneText Game budget text = Replies (IsEmptinessGameAnswer text) (IsEmptinessGameRefusal text)
-AnswersOneText (Realize controller) budget text =
-    Concludes (IsRealizeAnswer controller text) (IsRealizeRefusal text most_lifts)
-AnswersOneText (RealizeByLifting controller) budget text =
-    Concludes (IsRealizeAnswer controller text) (IsRealizeRefusal text budget)
+AnswersOneText (Realize false) budget text =
+    Concludes (IsDecisionAnswer text) (IsRealizeRefusal text most_lifts)
+AnswersOneText (Realize true) budget text =
+    Concludes (IsWinnerAnswer text) (IsRealizeRefusal text most_lifts)
+AnswersOneText (RealizeByLifting false) budget text =
+    Concludes (IsDecisionAnswer text) (IsRealizeRefusal text budget)
+AnswersOneText (RealizeByLifting true) budget text =
+    Concludes (IsWinnerAnswer text) (IsRealizeRefusal text budget)
 AnswersOneText RealizabilityGame budget text = Replies (IsGameAnswer text) (IsGameRefusal text)
 AnswersOneText DrawGame budget text = Replies (IsGameDrawingAnswer text None None) (IsRefusal text)
 AnswersOneText DrawAutomaton budget text =

@@ -6,7 +6,7 @@ ghost use Rattle.omega_answers_synth.specs.Refusing.{IsRealizeRefusal};
 ghost use Rattle.omega_io.specs.Failures.{failures_of};
 ghost use Rattle.omega_solve.specs.budget.Observing.{IsObserved, refusal_in};
 ghost use Rattle.omega_solve.specs.Limits.{most_lifts};
-ghost use Rattle.omega_run.specs.OneText.{AnswersOneText, IsRealizeAnswer, asked_for};
+ghost use Rattle.omega_run.specs.OneText.{AnswersOneText, asked_for};
 ghost use Rattle.omega_run.specs.Progress.{IsReportedOf};
 ghost use Rattle.omega_run.specs.Results.{with_bytes};
 
