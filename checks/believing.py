@@ -42,6 +42,19 @@ CONTROLLER_LAWS = ("ControllersRealize", "CounterStrategiesRefute", "Controllers
 WRITTEN_CONTROLLERS = "omega_laws.specs.WrittenControllers"
 WRITTEN_CONTROLLER_LAWS = ("WrittenControllersAreJudgedRight", "WrittenControllersAreNotAtFault")
 WRITTEN_CONTROLLER_ANSWERS = frozenset({"IsWinnerAnswer", "IsControllerAnswer", "IsControllerRefused"})
+# What `yes`, `no`, `realizable` and `unrealizable` mean, by laws: each with the answers from which it concludes.
+EXACT = {
+    "`omega realize`, the law `realize_answers_are_exact`":
+        ("omega_answers_synth.specs.Laws", "RealizeAnswersAreExact", frozenset({"IsDecisionAnswer"})),
+    "`omega verify --specification`, the law `controller_answers_are_exact`":
+        ("omega_answers_synth.specs.Laws", "ControllerAnswersAreExact", frozenset({"IsControllerAnswer"})),
+    "`omega accepts`, the law `accepted_texts_are_accepted`":
+        ("omega_laws.specs.InclusionTexts", "AcceptedTextsAreAccepted", frozenset({"IsAcceptsAnswer"})),
+    "`omega contained`, the law `contained_texts_are_contained`":
+        ("omega_laws.specs.InclusionTexts", "ContainedTextsAreContained", frozenset({"IsContainedAnswer"})),
+    "`omega equal`, the law `equal_texts_are_equal`":
+        ("omega_laws.specs.InclusionTexts", "EqualTextsAreEqual", frozenset({"IsEqualAnswer"})),
+}
 # What calls of the library answer, where they answer.
 CALLS = {
     "`decide_containment` of `omega_lang_inclusion`": ("omega_lang_inclusion.specs.Containing", "IsContainment"),
@@ -164,6 +177,10 @@ counter-strategy has is said by definitions of letters alone, in `omega_synth_ga
 
 The row of written controllers counts what a text of an automaton is. The answers and refusals of the two commands are
 not among it: they are those of the rows `omega realize` and `omega verify --specification`.
+
+The rows by a law of one command count what its answer means, and not how it is put: whoever has read what a text of an
+automaton is, and the words of the law, knows what `yes` and `no` say. Refusals are not among it. The row of the command
+counts the answer with its reasons, and all refusals.
 
 **How to read one.** `checks/believing.py check --format pg` prints all definitions of that promise, in an order in
 which nothing is cited before it was read. `checks/believing.py --whole` lists for each promise the files of
@@ -525,6 +542,8 @@ def promises(sources: Sources) -> Iterator[Promise]:
     yield promise(CONTROLLED, [sources.held[CONTROLLERS, law] for law in CONTROLLER_LAWS])
     written = [sources.held[WRITTEN_CONTROLLERS, law] for law in WRITTEN_CONTROLLER_LAWS]
     yield promise(WRITTEN, written, WRITTEN_CONTROLLER_ANSWERS)
+    for label, (module, law, answers) in EXACT.items():
+        yield promise(label, [sources.held[module, law]], answers)
     for call, answer in CALLS.items():
         yield promise(f"answers of {call}", [sources.held[answer]])
     read_words = clause_words("crates/omega_cli/src/words.rt", "read_words")
