@@ -13,6 +13,7 @@ pub mod asked;
 pub mod both;
 mod one;
 pub(crate) mod searched;
+pub mod searching;
 
 use crate::dropping::drop_game;
 use crate::part::part_from;
@@ -24,10 +25,12 @@ use omega_pg::read_forward_game;
 use omega_solve::budget::Reporter;
 use one::solve_one;
 use searched::solve_by_judged_search;
+use searching::Searching;
 use std::alloc::Global;
 
 /// Solves the game of `text` and returns the answer text of a player, or the solution text, as `asked` says. If an
-/// identifier `from` is given, solves the part that its node reaches. Each run is reported to `observer`.
+/// identifier `from` is given, solves the part that its node reaches. Where a search is asked for, it goes by
+/// `searching`, of which no clause speaks: the solution is exact, whoever finds it. Each run is reported to `observer`.
 ///
 /// Fails with the [Refusal::Text] or [Refusal::Game] of the text, or else with [TaskFault::UnknownNode], or else with
 /// [TaskFault::TooWide], or else with [TaskFault::Budget].
@@ -35,6 +38,7 @@ pub fn solve_game<L, W: Reporter<L>>(
     alloc: Global,
     text: &[u8],
     asked: Asked,
+    searching: Searching,
     from: Option<u32>,
     budget: u64,
     reporter: &W,
@@ -50,10 +54,10 @@ pub fn solve_game<L, W: Reporter<L>>(
 {
     let game = read_forward_game(alloc, text)?;
     match from {
-        None => solve_whole(alloc, game, asked, budget, reporter, observer),
-        Some(identifier) => {
-            solve_part(alloc, game, asked, identifier, budget, reporter, observer)
-        }
+        None => solve_whole(alloc, game, asked, searching, budget, reporter, observer),
+        Some(identifier) => solve_part(
+            alloc, game, asked, searching, identifier, budget, reporter, observer,
+        ),
     }
 }
 
@@ -63,6 +67,7 @@ fn solve_part<L, W: Reporter<L>>(
     alloc: Global,
     game: ForwardGame,
     asked: Asked,
+    searching: Searching,
     identifier: u32,
     budget: u64,
     reporter: &W,
@@ -79,7 +84,7 @@ fn solve_part<L, W: Reporter<L>>(
     regions_of_parts();
     game.keeps_limits();
     let part = part_from(alloc, game, identifier)?;
-    solve_whole(alloc, part, asked, budget, reporter, observer)
+    solve_whole(alloc, part, asked, searching, budget, reporter, observer)
 }
 
 /// Solves a whole game as `asked` says. Fails with [TaskFault::TooWide], or else with [TaskFault::Budget].
@@ -87,6 +92,7 @@ fn solve_whole<L, W: Reporter<L>>(
     alloc: Global,
     game: ForwardGame,
     asked: Asked,
+    searching: Searching,
     budget: u64,
     reporter: &W,
     observer: &mut L,
@@ -105,7 +111,9 @@ fn solve_whole<L, W: Reporter<L>>(
             drop_game(game);
             solved
         }
-        Asked::Search => { solve_by_judged_search(alloc, game, budget, reporter, observer) }
+        Asked::Search => {
+            solve_by_judged_search(alloc, game, searching, budget, reporter, observer)
+        }
         Asked::Player(player) => {
             let solved = solve_one(alloc, &game, player, budget, reporter, observer);
             drop_game(game);

@@ -6,7 +6,7 @@ ghost use Rattle.omega_answers_synth.specs.Refusing.{IsRealizeRefusal};
 ghost use Rattle.omega_io.specs.Failures.{failures_of};
 ghost use Rattle.omega_solve.specs.budget.Observing.{IsObserved, refusal_in};
 ghost use Rattle.omega_solve.specs.Limits.{most_lifts};
-ghost use Rattle.omega_run.specs.OneText.{AnswersOneText, IsRealizeAnswer, asked_for};
+ghost use Rattle.omega_run.specs.OneText.{AnswersOneText, IsRealizeAnswer, asked_for, searching_by};
 ghost use Rattle.omega_run.specs.Progress.{IsReportedOf};
 ghost use Rattle.omega_run.specs.Results.{with_bytes};
 
@@ -16,14 +16,14 @@ use omega_answers_empty::{
     write_emptiness_game,
 };
 use omega_answers_game::{
-    Asked, canon_game, canon_least, canon_part, check_game, draw_game_text, show_game, show_json,
-    solve_game,
+    Asked, Searcher, Searching, canon_game, canon_least, canon_part, check_game, draw_game_text,
+    show_game, show_json, solve_game,
 };
 use omega_answers_synth::{
     decide_realizability, decide_realizability_by_lifting, write_realizability_game, write_winner,
     write_winner_by_lifting,
 };
-use omega_cli_command::OneText;
+use omega_cli_command::{OneText, SearcherName};
 use omega_game_values::Player;
 use omega_io::{Exit, Refusal};
 use omega_solve::budget::Reporter;
@@ -57,11 +57,14 @@ pub(crate) fn answer_one_text<L, T: Reporter<L>>(
         OneText::CanonLeast { from } => Ok((Exit::Done, canon_least(alloc, text, from)?)),
         OneText::Solve { player, from } => {
             let asked = asked_for(player);
-            let made = solve_game(alloc, text, asked, from, budget, reporter, observer)?;
+            let searching = Searching::PLAIN;
+            let made = solve_game(alloc, text, asked, searching, from, budget, reporter, observer)?;
             Ok((Exit::Done, made))
         }
-        OneText::Search { from } => {
-            let made = solve_game(alloc, text, Asked::Search, from, budget, reporter, observer)?;
+        OneText::Search { from, by, effort } => {
+            let asked = Asked::Search;
+            let searching = searching_by(by, effort);
+            let made = solve_game(alloc, text, asked, searching, from, budget, reporter, observer)?;
             Ok((Exit::Done, made))
         }
         OneText::Empty {
@@ -109,4 +112,16 @@ fn asked_for(player: Option<Player>) -> Asked
         Some(player) => Asked::Player(player),
         None => Asked::Both,
     }
+}
+
+/// Returns how a game is searched: by the searcher of this name alone, or by both if none is named.
+fn searching_by(name: Option<SearcherName>, effort: u64) -> Searching
+    ensures { result ≡ searching_by name effort }
+{
+    let alone = match name {
+        Some(SearcherName::Zielonka) => Some(Searcher::Zielonka),
+        Some(SearcherName::Tangles) => Some(Searcher::Tangles),
+        None => None,
+    };
+    Searching { alone, effort }
 }

@@ -8,21 +8,23 @@ ghost use Rattle.omega_answers_game.specs.private.steps.Lifts.{LiftsWholeGame};
 ghost use Rattle.omega_solve.specs.budget.Observing.{IsObserved, refusal_in};
 
 use super::both::{solution_in_turns, solution_of};
+use super::searching::Searching;
 use crate::dropping::drop_whole;
 use omega_game::{ForwardGame, Game, Refusal, Solution};
-use omega_game_search::solve_by_search;
+use omega_game_search::solve_by;
 use omega_pg::write_solution;
 use omega_solve::MOST_LIFTS;
 use omega_solve::budget::Reporter;
 use std::alloc::Global;
 
-/// Returns the solution text of `game`, found by a search and judged. If the search gives none, the game is solved by
-/// lifting: in turns whatever the bounds if `budget` is the most and nobody listens, else with the budget for each
+/// Returns the solution text of `game`, found by a search as `searching` says, and judged. If the search gives none,
+/// the game is solved by lifting: in turns whatever the bounds if `budget` is the most and nobody listens, else with the budget for each
 /// player's run. Only then does [TaskFault::TooWide] or [TaskFault::Budget] come. No contract says when the search
 /// gives one. The search goes against edges, so the predecessors are listed first.
 pub fn solve_by_judged_search<L, W: Reporter<L>>(
     alloc: Global,
     game: ForwardGame,
+    searching: Searching,
     budget: u64,
     reporter: &W,
     observer: &mut L,
@@ -34,7 +36,7 @@ pub fn solve_by_judged_search<L, W: Reporter<L>>(
         (W.tells reporter.now) (W.pace reporter.now) budget observer.old observer.new }
 {
     let whole = game.with_predecessors(alloc)?;
-    let text = searched_text(alloc, &whole, budget, reporter, observer);
+    let text = searched_text(alloc, &whole, searching, budget, reporter, observer);
     drop_whole(whole);
     text
 }
@@ -43,6 +45,7 @@ pub fn solve_by_judged_search<L, W: Reporter<L>>(
 fn searched_text<L, W: Reporter<L>>(
     alloc: Global,
     game: &Game,
+    searching: Searching,
     budget: u64,
     reporter: &W,
     observer: &mut L,
@@ -53,7 +56,7 @@ fn searched_text<L, W: Reporter<L>>(
     ensures reported { IsObserved (LiftsWholeGame game.now Search) (refusal_in result)
         (W.tells reporter.now) (W.pace reporter.now) budget observer.old observer.new }
 {
-    let solution = searched_solution(alloc, game, budget, reporter, observer)?;
+    let solution = searched_solution(alloc, game, searching, budget, reporter, observer)?;
     write_solution(alloc, game.forward_game(), &solution)
 }
 
@@ -62,6 +65,7 @@ fn searched_text<L, W: Reporter<L>>(
 pub fn searched_solution<L, W: Reporter<L>>(
     alloc: Global,
     game: &Game,
+    searching: Searching,
     budget: u64,
     reporter: &W,
     observer: &mut L,
@@ -72,7 +76,8 @@ pub fn searched_solution<L, W: Reporter<L>>(
     ensures reported { IsObserved (LiftsWholeGame game.now Search) (refusal_in result)
         (W.tells reporter.now) (W.pace reporter.now) budget observer.old observer.new }
 {
-    match solve_by_search(alloc, game)? {
+    let searched = solve_by(alloc, game, searching.alone, searching.effort)?;
+    match searched.solution {
         Some(solution) => Ok(solution),
         None => lifted_solution(alloc, game.forward_game(), budget, reporter, observer),
     }
