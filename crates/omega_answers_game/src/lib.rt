@@ -38,7 +38,7 @@ pub use least_priority_laws::{
     least_winning_means_all_plays, turned_games_are_games, turned_games_keep_limits,
     turned_games_win_alike, turned_regions_are_alike, turned_texts_are_read,
 };
-pub use omega_game_search::Searcher;
+pub use omega_game_search::{Searcher, Turn, Turns};
 pub use omega_game_values::ForwardGame;
 pub use omega_io::Exit;
 pub use omega_solve::budget::{NoObserver, Reporter};

@@ -1,7 +1,9 @@
-ghost use Rattle.std.specs.Prelude.{◌≤◌, IfOk, IfErr, Some, None};
+ghost use Rattle.std.specs.Prelude.{◌≡◌, ◌≤◌, IfOk, IfErr, OnOk, Some, None};
+ghost use Rattle.omega_answers_game.specs.declared.solve.asked.Asked.TheVariants as way;
 ghost use Rattle.omega_solve.specs.Limits.{most_lifts};
 ghost use Rattle.omega_text.specs.Cases.{or_memory};
 ghost use Rattle.omega_answers_game.specs.solve.Refusing.{IsSolveGameRefusal, IsSolveRefusal};
+ghost use Rattle.omega_answers_game.specs.solve.Searching.{IsSearched, MaySearch};
 ghost use Rattle.omega_answers_game.specs.solve.Solving.{IsSolveAnswer, SolvesPart, SolvesWhole};
 ghost use Rattle.omega_answers_game.specs.Observing.{CountsReported, CountsReportedOfPart};
 ghost use Rattle.omega_answers_game.specs.Observing.{CountsReportedOfText, LiftsText};
@@ -30,7 +32,7 @@ use std::alloc::Global;
 
 /// Solves the game of `text` and returns the answer text of a player, or the solution text, as `asked` says. If an
 /// identifier `from` is given, solves the part that its node reaches. Where a search is asked for, it goes by
-/// `searching`, of which no clause speaks: the solution is exact, whoever finds it. Each run is reported to `observer`.
+/// `searching`, to which the turns of the searchers are added. Each run is reported to `observer`.
 ///
 /// Fails with the [Refusal::Text] or [Refusal::Game] of the text, or else with [TaskFault::UnknownNode], or else with
 /// [TaskFault::TooWide], or else with [TaskFault::Budget].
@@ -38,7 +40,7 @@ pub fn solve_game<L, W: Reporter<L>>(
     alloc: Global,
     text: &[u8],
     asked: Asked,
-    searching: Searching,
+    searching: &mut Searching,
     from: Option<u32>,
     budget: u64,
     reporter: &W,
@@ -47,6 +49,8 @@ pub fn solve_game<L, W: Reporter<L>>(
     requires { budget ≤ most_lifts }
     ensures answer { IfOk result (λ output. IsSolveAnswer text.now asked from budget output.items) }
     ensures refused { IfErr result (or_memory (IsSolveRefusal text.now asked from budget)) }
+    ensures searched { OnOk result (asked ≡ way.Search → IsSearched searching.old searching.new) }
+    ensures may_search { MaySearch searching.old searching.new }
     ensures reported { IsObserved (LiftsText text.now asked from) (refusal_in result)
         (W.tells reporter.now) (W.pace reporter.now) budget observer.old observer.new }
     ensures counted { IfOk result (λ output. CountsReportedOfText (W.tells reporter.now)
@@ -67,7 +71,7 @@ fn solve_part<L, W: Reporter<L>>(
     alloc: Global,
     game: ForwardGame,
     asked: Asked,
-    searching: Searching,
+    searching: &mut Searching,
     identifier: u32,
     budget: u64,
     reporter: &W,
@@ -76,6 +80,8 @@ fn solve_part<L, W: Reporter<L>>(
     requires { budget ≤ most_lifts }
     ensures answer { IfOk result (λ output. SolvesPart game asked identifier budget output.items) }
     ensures refused { IfErr result (IsSolveGameRefusal game asked (Some identifier) budget) }
+    ensures searched { OnOk result (asked ≡ way.Search → IsSearched searching.old searching.new) }
+    ensures may_search { MaySearch searching.old searching.new }
     ensures reported { IsObserved (LiftsPart game asked identifier) (refusal_in result)
         (W.tells reporter.now) (W.pace reporter.now) budget observer.old observer.new }
     ensures counted { IfOk result (λ output. CountsReportedOfPart (W.tells reporter.now)
@@ -92,7 +98,7 @@ fn solve_whole<L, W: Reporter<L>>(
     alloc: Global,
     game: ForwardGame,
     asked: Asked,
-    searching: Searching,
+    searching: &mut Searching,
     budget: u64,
     reporter: &W,
     observer: &mut L,
@@ -100,6 +106,8 @@ fn solve_whole<L, W: Reporter<L>>(
     requires { budget ≤ most_lifts }
     ensures answer { IfOk result (λ output. SolvesWhole game asked budget output.items) }
     ensures refused { IfErr result (IsSolveGameRefusal game asked None budget) }
+    ensures searched { OnOk result (asked ≡ way.Search → IsSearched searching.old searching.new) }
+    ensures may_search { MaySearch searching.old searching.new }
     ensures reported { IsObserved (LiftsWholeGame game asked) (refusal_in result)
         (W.tells reporter.now) (W.pace reporter.now) budget observer.old observer.new }
     ensures counted { IfOk result (λ output. CountsReported (W.tells reporter.now)

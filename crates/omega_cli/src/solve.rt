@@ -62,6 +62,11 @@ most, or if it has stored 64 words for each node and each edge. --effort N lets 
 many edges, 1 to 1000 times, and store as many words as before. --by zielonka or --by tangles lets one of
 them alone search, and the game is lifted where that one gives up. Both options go with --search.
 
+--verbose, or -v, says on standard error how the game was searched, in a line for each searcher that
+searched: whether it found the solution or gave up, and after how many edges, such as `omega: zielonka
+gave up after 2416 edges`. If none found it, `omega: the game is lifted` comes next. If 50 TooWide follows,
+lifting was too wide after the searches gave up.
+
   $ omega solve --search --by tangles --effort 10 game.pg
   paritysol 2;
   0 0 2;

@@ -1,6 +1,5 @@
 -- What each command answers to its one text, and why it refuses it.
 use Rattle.std.specs.Prelude.{◌≡◌, Bool, false, true, List, Option, Some, None, Result, Ok, Err, ℕ}
-use Rattle.std.specs.Prelude.{option_map}
 use Rattle.omega_text.specs.declared.refusal.Refusal.{Refusal}
 use Rattle.omega_answers_game.specs.Refusing.{IsRefusal}
 use Rattle.omega_game_values.specs.declared.player.Player.{Player}
@@ -12,11 +11,6 @@ use Rattle.omega_cli_command.specs.declared.one_text.OneText.TheVariants.{Empty,
 use Rattle.omega_cli_command.specs.declared.one_text.OneText.TheVariants.{RealizabilityGame, Realize}
 use Rattle.omega_cli_command.specs.declared.one_text.OneText.TheVariants.{RealizeByLifting, Search, Show}
 use Rattle.omega_cli_command.specs.declared.one_text.OneText.TheVariants.{ShowJson, Solve, Trim}
-use Rattle.omega_cli_command.specs.declared.searcher_name.SearcherName.{SearcherName}
-use Rattle.omega_cli_command.specs.declared.searcher_name.SearcherName.TheVariants as named
-use Rattle.omega_game_search.specs.declared.searcher.Searcher.{Searcher}
-use Rattle.omega_game_search.specs.declared.searcher.Searcher.TheVariants as searcher
-use Rattle.omega_answers_game.specs.declared.solve.searching.Searching.{Searching}
 use Rattle.omega_io.specs.declared.exit.Exit.{Exit}
 use Rattle.omega_io.specs.declared.exit.Exit.TheVariants.{Done}
 use Rattle.omega_answers_automaton.specs.Complement.{IsComplementAnswer, IsComplementRefusal}
@@ -49,15 +43,6 @@ use Rattle.omega_solve.specs.Limits.{most_lifts}
 abbrev pub asked_for : Option Player → Asked
 asked_for None = way.Both
 asked_for (Some player) = way.Player player
-
--- the searcher of this name
-abbrev pub searcher_named : SearcherName → Searcher
-searcher_named named.Zielonka = searcher.Zielonka
-searcher_named named.Tangles = searcher.Tangles
-
--- how a game is searched: by the searcher of this name alone, or by both if none is named
-abbrev pub searching_by : Option SearcherName → (effort : ℕ) → Searching
-searching_by name effort = record { alone = option_map searcher_named name; effort = effort }
 
 -- the command is done with such an output, or refuses for such a reason
 abbrev pub Replies : (List ℕ → Type 0) → (Refusal → Type 0) → Result (Exit × List ℕ) Refusal → Type 0

@@ -1,7 +1,8 @@
-ghost use Rattle.std.specs.Prelude.{◌≤◌, IfOk, IfErr, None};
+ghost use Rattle.std.specs.Prelude.{◌≤◌, IfOk, IfErr, None, OnOk};
 ghost use Rattle.omega_solve.specs.Limits.{most_lifts};
 ghost use Rattle.omega_answers_game.specs.declared.solve.asked.Asked.TheVariants.{Search};
 ghost use Rattle.omega_game_values.specs.Solution.{IsExactSolution};
+ghost use Rattle.omega_answers_game.specs.solve.Searching.{IsSearched, MaySearch};
 ghost use Rattle.omega_answers_game.specs.solve.Solution.{IsExactSolutionOf};
 ghost use Rattle.omega_answers_game.specs.solve.Refusing.{IsSolveGameRefusal};
 ghost use Rattle.omega_answers_game.specs.private.steps.Lifts.{LiftsWholeGame};
@@ -24,7 +25,7 @@ use std::alloc::Global;
 pub fn solve_by_judged_search<L, W: Reporter<L>>(
     alloc: Global,
     game: ForwardGame,
-    searching: Searching,
+    searching: &mut Searching,
     budget: u64,
     reporter: &W,
     observer: &mut L,
@@ -32,6 +33,8 @@ pub fn solve_by_judged_search<L, W: Reporter<L>>(
     requires { budget ≤ most_lifts }
     ensures answer { IfOk result (λ output. IsExactSolutionOf game output.items) }
     ensures refused { IfErr result (IsSolveGameRefusal game Search None budget) }
+    ensures searched { OnOk result (IsSearched searching.old searching.new) }
+    ensures may_search { MaySearch searching.old searching.new }
     ensures reported { IsObserved (LiftsWholeGame game Search) (refusal_in result)
         (W.tells reporter.now) (W.pace reporter.now) budget observer.old observer.new }
 {
@@ -45,7 +48,7 @@ pub fn solve_by_judged_search<L, W: Reporter<L>>(
 fn searched_text<L, W: Reporter<L>>(
     alloc: Global,
     game: &Game,
-    searching: Searching,
+    searching: &mut Searching,
     budget: u64,
     reporter: &W,
     observer: &mut L,
@@ -53,6 +56,8 @@ fn searched_text<L, W: Reporter<L>>(
     requires { budget ≤ most_lifts }
     ensures answer { IfOk result (λ output. IsExactSolutionOf game.now output.items) }
     ensures refused { IfErr result (IsSolveGameRefusal game.now Search None budget) }
+    ensures searched { OnOk result (IsSearched searching.old searching.new) }
+    ensures may_search { MaySearch searching.old searching.new }
     ensures reported { IsObserved (LiftsWholeGame game.now Search) (refusal_in result)
         (W.tells reporter.now) (W.pace reporter.now) budget observer.old observer.new }
 {
@@ -60,12 +65,12 @@ fn searched_text<L, W: Reporter<L>>(
     write_solution(alloc, game.forward_game(), &solution)
 }
 
-/// Returns the solution of `game`, by the search or else by lifting. Fails with [TaskFault::TooWide] or
+/// Returns the solution of `game`, by the search or else by lifting, and adds the turns of the searchers. Fails with [TaskFault::TooWide] or
 /// [TaskFault::Budget].
 pub fn searched_solution<L, W: Reporter<L>>(
     alloc: Global,
     game: &Game,
-    searching: Searching,
+    searching: &mut Searching,
     budget: u64,
     reporter: &W,
     observer: &mut L,
@@ -73,10 +78,13 @@ pub fn searched_solution<L, W: Reporter<L>>(
     requires { budget ≤ most_lifts }
     ensures exact { IfOk result (IsExactSolution game.now) }
     ensures refused { IfErr result (IsSolveGameRefusal game.now Search None budget) }
+    ensures searched { OnOk result (IsSearched searching.old searching.new) }
+    ensures may_search { MaySearch searching.old searching.new }
     ensures reported { IsObserved (LiftsWholeGame game.now Search) (refusal_in result)
         (W.tells reporter.now) (W.pace reporter.now) budget observer.old observer.new }
 {
     let searched = solve_by(alloc, game, searching.alone, searching.effort)?;
+    searching.turns = Some(searched.turns);
     match searched.solution {
         Some(solution) => Ok(solution),
         None => lifted_solution(alloc, game.forward_game(), budget, reporter, observer),

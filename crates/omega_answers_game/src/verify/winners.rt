@@ -122,10 +122,11 @@ fn verdict_by_search(
         (λ made. IsWinnersVerdict game.now winners.now explain made.0 made.1.items) }
     ensures refused { IfErr result (IsSolveGameRefusal game.now Search None most_lifts) }
 {
+    let mut searching = Searching::plainly();
     let solution = searched_solution(
         alloc,
         game,
-        Searching::PLAIN,
+        &mut searching,
         MOST_LIFTS,
         &NoObserver,
         &mut (),
