@@ -1,6 +1,6 @@
 """Every request for memory refused, one by one and each together with all after it, in some hundred runs. A run ends
 with the line `omega: 60 Memory`, status 4 and no output, or exactly as with ample memory; or with `-v`, without the
-last line of a refusal, which says where or what. Runs that differ in nothing but their lifts make as many requests: a
+last line of a refusal, which says where or what, or with the lines on a search before that of the refusal. Runs that differ in nothing but their lifts make as many requests: a
 solver that was made requests none.
 """
 import os
@@ -130,6 +130,8 @@ RUNS: list[Run] = [
     (["check", "--format", "pg"], b"0 0 0;", None),
     *((["check", "-v", "--format", "pg"], text, None) for text in (b"0 0 0;", b"0 0 0 1;", b"0 0 0 0; 0 0 0 0;", TWO)),
     (["solve", "-v", "--progress"], b"parity 0; 1 0 0 1;", None),
+    *((["solve", "--search", "-v", "--by", name, "--effort", "2"], text, None)
+      for text in (CHOICE, DENSE) for name in ("zielonka", "tangles")),
     *((["empty", "-v", "--search"], text, None) for text in (b"HOA: v1", b"HOA: v1 Acceptance: 0 Inf(0) --BODY-- --END--")),
     (["solve", "-v", "--lenient"], b"0 0 0 7; // seven", None),
     (["verify", "-v", "--lenient", "--game"], b"paritysol 1; # x\n0 0;", LENIENT),
@@ -178,8 +180,15 @@ def untold(ample: Left) -> Left:
     return (ample[0], ample[1], b"".join(lines[:-1])) if is_told else ample
 
 
+def refused_later(ample: Left) -> Left:
+    """What is left where memory is refused after the game was searched: the lines on the search come first."""
+    return REFUSED[0], REFUSED[1], ample[2] + REFUSED[2]
+
+
 def fault_in(words: list[str], came: Left, ample: Left) -> Fault:
     if came in (ample, REFUSED) or "-v" in words and came == untold(ample):
+        return None
+    if "-v" in words and "--search" in words and came == refused_later(ample):
         return None
     return f"status {came[0]}, {shown(came[1])}, {shown(came[2])}"
 

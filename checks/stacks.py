@@ -6,12 +6,16 @@ import tempfile
 from collections.abc import Iterator
 from functools import partial
 
+from games import text_of
 from program import SECONDS, Cases, Fault
+from search import loops
 
 # How many KiB the header says that a call needs, whatever the text is; and a depth that labels and formulas may have.
 KIBIBYTES, DEEPEST = 64, 250
 # More propositions than the valuations of a label are tried for, one after another.
 MANY = 16
+# Loops of a ring on which Zielonka's algorithm gives up.
+LOOPS = 5000
 GAME = "".join(f"{v} {v % 7} {v % 2} {(v + 1) % 20000},{v};" for v in range(20000))
 NAMES = " ".join(f'"p{p}"' for p in range(MANY))
 AUTOMATON = (f"HOA: v1 States: 2 Start: 0 AP: {MANY} {NAMES} %sAcceptance: %s "
@@ -89,5 +93,9 @@ def stack_checks(program: str) -> Cases:
             label = f"{KIBIBYTES} KiB of stack for {' '.join(words)} on {name}, {DEEPEST} deep"
             yield label, partial(stack_fault, program, KIBIBYTES, words, text)
     for command in ("solve --search", "solve --budget 100000", "canon --format pg", "check --format pg",
-                    "show --format pg", "draw --format pg"):
+                    "show --format pg", "draw --format pg", "solve --search --by zielonka -v",
+                    "solve --search --by tangles -v"):
         yield f"the stack of {command}", partial(stack_fault, program, KIBIBYTES, ["run", *command.split()], GAME)
+    for command in ("solve --search -v", "solve --search --by tangles"):
+        yield f"the stack of {command} on a ring of {LOOPS} loops", partial(
+            stack_fault, program, KIBIBYTES, ["run", *command.split()], text_of(loops(LOOPS, back=True)).decode())

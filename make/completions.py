@@ -4,7 +4,7 @@ import re
 import subprocess
 from dataclasses import dataclass, field
 
-VALUES = {"FORMAT": ["pg", "hoa"], "P": ["0", "1"]}
+VALUES = {"FORMAT": ["pg", "hoa"], "P": ["0", "1"], "SEARCHER": ["zielonka", "tangles"]}
 
 
 @dataclass

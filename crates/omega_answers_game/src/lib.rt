@@ -38,6 +38,7 @@ pub use least_priority_laws::{
     least_winning_means_all_plays, turned_games_are_games, turned_games_keep_limits,
     turned_games_win_alike, turned_regions_are_alike, turned_texts_are_read,
 };
+pub use omega_game_search::{Searcher, Turn, Turns};
 pub use omega_game_values::ForwardGame;
 pub use omega_io::Exit;
 pub use omega_solve::budget::{NoObserver, Reporter};
@@ -46,6 +47,7 @@ pub use show::json::show_json;
 pub use show::show_game;
 pub use solve::asked::Asked;
 pub use solve::both::{fits_both, solution_in_turns, winners_of};
+pub use solve::searching::Searching;
 pub use solve::solve_game;
 pub use turning::turned_priorities;
 pub use verify::explaining::lost_by;

@@ -56,8 +56,9 @@ canon = with_options (codes "canon") (optional (codes "format") ∷ optional (co
 
 abbrev pub solve : Shape
 solve = with_options (codes "solve") (optional (codes "player") ∷ optional (codes "from")
-    ∷ flag (codes "search") ∷ optional (codes "budget") ∷ flag (codes "progress")
-    ∷ flag (codes "lenient") ∷ verbose ∷ operand (codes "file") ∷ [])
+    ∷ flag (codes "search") ∷ optional (codes "by") ∷ optional (codes "effort")
+    ∷ optional (codes "budget") ∷ flag (codes "progress") ∷ flag (codes "lenient") ∷ verbose
+    ∷ operand (codes "file") ∷ [])
 
 abbrev pub verify : Shape
 verify = with_options (codes "verify")

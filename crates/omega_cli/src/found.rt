@@ -18,6 +18,8 @@ pub fn options_in<'a>(found: &ArgMatches<'a>) -> Options<'a>
         from: found.get_str("from"),
         budget: found.get_str("budget"),
         search: found.get_str("search"),
+        by: found.get_str("by"),
+        effort: found.get_str("effort"),
         game: found.get_str("game"),
         automaton: found.get_str("automaton"),
         specification: found.get_str("specification"),

@@ -56,6 +56,23 @@ The choices may differ from those of lifting. Where both searches give up, the g
 within the budget; --progress reports on that lifting alone. --search solves for both players, so it does
 not go with --player.
 
+Zielonka's algorithm gives up once it has looked at 16 edges for each node and each edge of the game,
+tangle learning after 10000000 edges and 4000 more for each node and each edge, but after 4000000000 at
+most, or if it has stored 64 words for each node and each edge. --effort N lets both look at N times as
+many edges, 1 to 1000 times, and store as many words as before. --by zielonka or --by tangles lets one of
+them alone search, and the game is lifted where that one gives up. Both options go with --search.
+
+--verbose, or -v, says on standard error how the game was searched, in a line for each searcher that
+searched: whether it found the solution or gave up, and after how many edges, such as `omega: zielonka
+gave up after 2416 edges`. If none found it, `omega: the game is lifted` comes next. If 50 TooWide follows,
+lifting was too wide after the searches gave up.
+
+  $ omega solve --search --by tangles --effort 10 game.pg
+  paritysol 2;
+  0 0 2;
+  1 0;
+  2 0;
+
 --from ID solves the part of the game that is reached from the node with that identifier, and writes
 lines for those nodes alone. Who wins them depends on nothing else in the game. If no node has the
 identifier, the refusal is 54 UnknownNode. `omega canon --format pg --from ID` writes the part as a game
@@ -83,6 +100,16 @@ const OPTIONS: &[OptionHelp] = &[
         name: "search",
         value: Value::None,
         help: "Solve by a search whose answer is judged, which is far quicker on large games",
+    },
+    OptionHelp {
+        name: "by",
+        value: Value::Optional("SEARCHER"),
+        help: "With --search, let this searcher alone search: zielonka or tangles",
+    },
+    OptionHelp {
+        name: "effort",
+        value: Value::Optional("N"),
+        help: "With --search, let each searcher go N times as far, 1 to 1000",
     },
     BUDGET,
     PROGRESS,

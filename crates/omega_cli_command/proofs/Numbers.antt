@@ -30,13 +30,13 @@ empty [] none = refl
 empty (byte ∷ rest) none = absurd (omega (arith, none))
 
 -- the reason for a text that begins with no sign
-reported : (most : ℕ) (text : List ℕ) (why : IntErrorKind) → (BeginsWithSign text → ⊥) → IsParseIntError 10 text text kind.PosOverflow why
-    → (IsNumeral 10 text × (digits_value 10 text < 2 ^ 64) → ⊥) → IsNumberReason most text (reason_for (list_all is_decimal text) why)
-reported most text why unsigned (inl (is, none)) fails = rw is (empty text none)
-reported most text why unsigned (inr (some, inl (is, other))) fails = rw is (record { nonempty = some; unsigned = unsigned }, other)
-reported most text why unsigned (inr (some, inr is)) fails = rw is (go (list_all is_decimal text) refl)
+reported : (least most : ℕ) (text : List ℕ) (why : IntErrorKind) → (BeginsWithSign text → ⊥) → IsParseIntError 10 text text kind.PosOverflow why
+    → (IsNumeral 10 text × (digits_value 10 text < 2 ^ 64) → ⊥) → IsNumberReason least most text (reason_for (list_all is_decimal text) why)
+reported least most text why unsigned (inl (is, none)) fails = rw is (empty text none)
+reported least most text why unsigned (inr (some, inl (is, other))) fails = rw is (record { nonempty = some; unsigned = unsigned }, other)
+reported least most text why unsigned (inr (some, inr is)) fails = rw is (go (list_all is_decimal text) refl)
   where
-    go : (digits : Bool) → list_all is_decimal text ≡ digits → IsNumberReason most text (reason_for digits kind.PosOverflow)
+    go : (digits : Bool) → list_all is_decimal text ≡ digits → IsNumberReason least most text (reason_for digits kind.PosOverflow)
     go true passed = elim (cases_lt (digits_value 10 text) (2 ^ 64)) [
       | inl small ↦ absurd (fails ((some, digits_from text passed), small))
       | inr large ↦ ((some, digits_from text passed), large)
@@ -52,10 +52,10 @@ whole text unsigned = go (slice_index text 0 == 43) refl
     go false is = rw is refl
 
 -- the same of what `std` reads, which is the text after a plus
-pub reported_after : (most : ℕ) (text : List ℕ) (why : IntErrorKind) → (BeginsWithSign text → ⊥)
+pub reported_after : (least most : ℕ) (text : List ℕ) (why : IntErrorKind) → (BeginsWithSign text → ⊥)
     → IsParseIntError 10 text (without_leading_plus text) kind.PosOverflow why
     → (IsNumeral 10 (without_leading_plus text) × (digits_value 10 (without_leading_plus text) < 2 ^ 64) → ⊥)
-    → IsNumberReason most text (reason_for (list_all is_decimal text) why)
-reported_after most text why unsigned error fails =
-    reported most text why unsigned (subst (λ (digits : List ℕ). IsParseIntError 10 text digits kind.PosOverflow why) (whole text unsigned) error)
+    → IsNumberReason least most text (reason_for (list_all is_decimal text) why)
+reported_after least most text why unsigned error fails =
+    reported least most text why unsigned (subst (λ (digits : List ℕ). IsParseIntError 10 text digits kind.PosOverflow why) (whole text unsigned) error)
     (subst (λ (digits : List ℕ). IsNumeral 10 digits × (digits_value 10 digits < 2 ^ 64) → ⊥) (whole text unsigned) fails)

@@ -18,6 +18,8 @@ IsUsed name.Player options = text_of name.Player options ≢ None
 IsUsed name.From options = text_of name.From options ≢ None
 IsUsed name.Budget options = text_of name.Budget options ≢ None
 IsUsed name.Search options = GivesFlag (text_of name.Search options) true
+IsUsed name.By options = text_of name.By options ≢ None
+IsUsed name.Effort options = text_of name.Effort options ≢ None
 IsUsed name.Game options = text_of name.Game options ≢ None
 IsUsed name.Automaton options = text_of name.Automaton options ≢ None
 IsUsed name.Specification options = text_of name.Specification options ≢ None
@@ -77,12 +79,14 @@ pub record IsConflict (subcommand : Subcommand) (options : Options)
 
 -- the option of the subcommand that has to be given if this one is. The steps of a depth are counted from a node, and a
 -- legend is of a solution, or of a walk that is drawn in place of one. Names are those of an explanation. The lifts of
--- `realize` are bounded and reported only if it lifts
+-- `realize` are bounded and reported only if it lifts. A searcher and an effort are those of a search
 abbrev pub IsNeededBy : OptionName → Subcommand → Options → OptionName → Type 0
 IsNeededBy name.Depth subcommand options option = (subcommand ≡ sub.Draw) × (option ≡ name.From)
 IsNeededBy name.Legend subcommand options option =
     (subcommand ≡ sub.Draw) × (option ≡ name.Solution) × (text_of name.Walk options ≡ None)
 IsNeededBy name.Names subcommand options option = (subcommand ≡ sub.Verify) × (option ≡ name.Explain)
+IsNeededBy name.By subcommand options option = (subcommand ≡ sub.Solve) × (option ≡ name.Search)
+IsNeededBy name.Effort subcommand options option = (subcommand ≡ sub.Solve) × (option ≡ name.Search)
 IsNeededBy name.Budget subcommand options option = (subcommand ≡ sub.Realize) × (option ≡ name.Lift)
 IsNeededBy name.Progress subcommand options option =
     (subcommand ≡ sub.Realize) × (option ≡ name.Lift)

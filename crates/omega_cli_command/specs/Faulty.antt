@@ -2,16 +2,18 @@
 use Rattle.std.specs.Prelude.{◌≡◌, Bool, List, Some, None, ℕ}
 use Rattle.omega_game_values.specs.declared.player.Player.{Player}
 use Rattle.omega_text.specs.Limits.{most_number}
-use Rattle.omega_cli_command.specs.Limits.{most_budget}
+use Rattle.omega_cli_command.specs.Limits.{most_budget, most_effort}
 use Rattle.omega_cli_command.specs.Options.{text_of}
 use Rattle.omega_cli_command.specs.Reason.{IsReason}
-use Rattle.omega_cli_command.specs.Values.{IsFormatText, IsNumberText, IsPlayerText, IsTruthText}
+use Rattle.omega_cli_command.specs.Values.{IsFormatText, IsNumberText, IsPlayerText, IsSearcherText}
+use Rattle.omega_cli_command.specs.Values.{IsTruthText}
 use Rattle.omega_cli_command.specs.declared.format.Format.{Format}
 use Rattle.omega_cli_command.specs.declared.mistake.Mistake.{Mistake}
 use Rattle.omega_cli_command.specs.declared.mistake.Mistake.TheVariants as mistake
 use Rattle.omega_cli_command.specs.declared.options.OptionName.{OptionName}
 use Rattle.omega_cli_command.specs.declared.options.OptionName.TheVariants as name
 use Rattle.omega_cli_command.specs.declared.options.Options.{Options}
+use Rattle.omega_cli_command.specs.declared.searcher_name.SearcherName.{SearcherName}
 
 -- the option has to be given if the subcommand has it; the game only if no automaton and no specification is given
 abbrev pub IsRequired : OptionName → Options → Type 0
@@ -20,6 +22,8 @@ IsRequired name.Player options = ⊥
 IsRequired name.From options = ⊥
 IsRequired name.Budget options = ⊥
 IsRequired name.Search options = ⊥
+IsRequired name.By options = ⊥
+IsRequired name.Effort options = ⊥
 IsRequired name.Game options =
     (text_of name.Automaton options ≡ None) × (text_of name.Specification options ≡ None)
 IsRequired name.Automaton options = ⊥
@@ -54,9 +58,11 @@ IsRequired name.File options = ⊥
 abbrev pub StandsForNothing : OptionName → List ℕ → Type 0
 StandsForNothing name.Format text = (format : Format) → IsFormatText text format → ⊥
 StandsForNothing name.Player text = (player : Player) → IsPlayerText text player → ⊥
-StandsForNothing name.From text = (number : ℕ) → IsNumberText most_number text number → ⊥
-StandsForNothing name.Budget text = (number : ℕ) → IsNumberText most_budget text number → ⊥
+StandsForNothing name.From text = (number : ℕ) → IsNumberText 0 most_number text number → ⊥
+StandsForNothing name.Budget text = (number : ℕ) → IsNumberText 0 most_budget text number → ⊥
 StandsForNothing name.Search text = (flag : Bool) → IsTruthText text flag → ⊥
+StandsForNothing name.By text = (searcher : SearcherName) → IsSearcherText text searcher → ⊥
+StandsForNothing name.Effort text = (number : ℕ) → IsNumberText 1 most_effort text number → ⊥
 StandsForNothing name.Game text = ⊥
 StandsForNothing name.Automaton text = ⊥
 StandsForNothing name.Specification text = ⊥
@@ -76,7 +82,7 @@ StandsForNothing name.Solution text = ⊥
 StandsForNothing name.Walk text = ⊥
 StandsForNothing name.Legend text = (flag : Bool) → IsTruthText text flag → ⊥
 StandsForNothing name.Lasso text = (flag : Bool) → IsTruthText text flag → ⊥
-StandsForNothing name.Depth text = (number : ℕ) → IsNumberText most_number text number → ⊥
+StandsForNothing name.Depth text = (number : ℕ) → IsNumberText 0 most_number text number → ⊥
 StandsForNothing name.Progress text = (flag : Bool) → IsTruthText text flag → ⊥
 StandsForNothing name.Stream text = (flag : Bool) → IsTruthText text flag → ⊥
 StandsForNothing name.Winners text = (flag : Bool) → IsTruthText text flag → ⊥

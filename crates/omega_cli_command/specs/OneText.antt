@@ -2,8 +2,8 @@
 use Rattle.std.specs.Prelude.{◌≡◌, true, false, Some, None}
 use Rattle.omega_cli_command.specs.Formats.{AsksOfEither}
 use Rattle.omega_cli_command.specs.Options.{GivesEmptyLines, GivesFormat, GivesNoDrawn, GivesNoLifting}
-use Rattle.omega_cli_command.specs.Options.{GivesNode, GivesPart, text_of}
-use Rattle.omega_cli_command.specs.Values.{Gives, GivesFlag, IsPlayerText}
+use Rattle.omega_cli_command.specs.Options.{GivesNoSearching, GivesNode, GivesPart, text_of}
+use Rattle.omega_cli_command.specs.Values.{Gives, GivesEffort, GivesFlag, IsPlayerText, IsSearcherText}
 use Rattle.omega_cli_command.specs.declared.format.Format.TheVariants.{Hoa, Pg}
 use Rattle.omega_cli_command.specs.declared.one_text.OneText.{OneText}
 use Rattle.omega_cli_command.specs.declared.one_text.OneText.TheVariants as one
@@ -31,9 +31,12 @@ AsksOneText subcommand options (one.CanonLeast from) =
 AsksOneText subcommand options (one.Solve player from) =
     (subcommand ≡ sub.Solve) × GivesFlag (text_of name.Search options) false
     × Gives IsPlayerText (text_of name.Player options) player × GivesNode options from
-AsksOneText subcommand options (one.Search from) =
+    × GivesNoSearching options
+AsksOneText subcommand options (one.Search from by effort) =
     (subcommand ≡ sub.Solve) × GivesFlag (text_of name.Search options) true
     × (text_of name.Player options ≡ None) × GivesNode options from
+    × Gives IsSearcherText (text_of name.By options) by
+    × GivesEffort (text_of name.Effort options) effort
 AsksOneText subcommand options (one.Empty word names status) =
     (subcommand ≡ sub.Empty) × GivesFlag (text_of name.Stream options) false
     × GivesFlag (text_of name.Search options) false

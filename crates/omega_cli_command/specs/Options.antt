@@ -14,6 +14,8 @@ text_of name.Player options = option_map (λ text. text.now) options.player
 text_of name.From options = option_map (λ text. text.now) options.from
 text_of name.Budget options = option_map (λ text. text.now) options.budget
 text_of name.Search options = option_map (λ text. text.now) options.search
+text_of name.By options = option_map (λ text. text.now) options.by
+text_of name.Effort options = option_map (λ text. text.now) options.effort
 text_of name.Game options = option_map (λ text. text.now) options.game
 text_of name.Automaton options = option_map (λ text. text.now) options.automaton
 text_of name.Specification options = option_map (λ text. text.now) options.specification
@@ -49,13 +51,13 @@ GivesFormat options format = Gives IsFormatText (text_of name.Format options) (S
 
 -- the node whose part of a game is meant, if one is
 abbrev pub GivesNode : Options → Option ℕ → Type 0
-GivesNode options from = Gives (IsNumberText most_number) (text_of name.From options) from
+GivesNode options from = Gives (IsNumberText 0 most_number) (text_of name.From options) from
 
 -- the part of a game that the node `from` reaches, by at most `depth` steps if that is given; a depth needs a node from
 -- which its steps are counted
 abbrev pub GivesPart : Options → (from depth : Option ℕ) → Type 0
 GivesPart options from depth = GivesNode options from
-    × Gives (IsNumberText most_number) (text_of name.Depth options) depth
+    × Gives (IsNumberText 0 most_number) (text_of name.Depth options) depth
     × (IsSome depth → IsSome from)
 
 -- nothing is drawn in a game: neither a solution nor a walk, and so no legend
@@ -72,3 +74,7 @@ GivesEmptyLines options word names =
 abbrev pub GivesNoLifting : Options → Type 0
 GivesNoLifting options =
     (text_of name.Budget options ≡ None) × GivesFlag (text_of name.Progress options) false
+
+-- no option is given that goes with the search of a game
+abbrev pub GivesNoSearching : Options → Type 0
+GivesNoSearching options = (text_of name.By options ≡ None) × (text_of name.Effort options ≡ None)

@@ -1,7 +1,7 @@
 -- Why a text is no value of an option.
 use Rattle.std.specs.Prelude.{◌≡◌, ◌⊎◌, ◌^◌, ◌<◌, ◌≤◌, ℕ, List, [], length, slice_index}
 use Rattle.std.specs.Str.Parse.{IsNumeral, digits_value}
-use Rattle.omega_cli_command.specs.Limits.{most_budget}
+use Rattle.omega_cli_command.specs.Limits.{most_budget, most_effort}
 use Rattle.omega_text.specs.Limits.{most_number}
 use Rattle.omega_cli_command.specs.declared.mistake.Reason.{Reason}
 use Rattle.omega_cli_command.specs.declared.mistake.Reason.TheVariants as reason
@@ -24,31 +24,35 @@ pub record IsUnsigned (text : List ℕ) : Type 0 where
   pub nonempty : 0 < length text
   pub unsigned : BeginsWithSign text → ⊥
 
--- the number of the digits is above the greatest, and the reason has both
-pub record IsAboveLimit (most : ℕ) (text : List ℕ) (number limit : ℕ) : Type 0 where
+-- the number of the digits is below the least or above the greatest, and the reason has all three
+pub record IsOutside (least most : ℕ) (text : List ℕ) (number from to : ℕ) : Type 0 where
   pub digits : IsNumeral 10 text
   pub value : digits_value 10 text ≡ number
-  pub above : most < number
-  pub limit_is : limit ≡ most
+  pub outside : (number < least) ⊎ (most < number)
+  pub from_is : from ≡ least
+  pub to_is : to ≡ most
 
--- why a text is no number up to the greatest: it is empty, begins with a sign, or has a byte that is no digit; or its
--- number has more than 64 bits, or is above the greatest
-abbrev pub IsNumberReason : ℕ → List ℕ → Reason → Type 0
-IsNumberReason most text reason.Empty = text ≡ []
-IsNumberReason most text reason.Sign = BeginsWithSign text
-IsNumberReason most text reason.NotDigits = IsUnsigned text × (IsNumeral 10 text → ⊥)
-IsNumberReason most text reason.TooLarge = IsNumeral 10 text × (2 ^ 64 ≤ digits_value 10 text)
-IsNumberReason most text (reason.Above number limit) = IsAboveLimit most text number limit
-IsNumberReason most text reason.NoFormat = ⊥
-IsNumberReason most text reason.NoTruth = ⊥
+-- why a text is no number from the least to the greatest: it is empty, begins with a sign, or has a byte that is no
+-- digit; or its number has more than 64 bits, or is below the least or above the greatest
+abbrev pub IsNumberReason : (least most : ℕ) → List ℕ → Reason → Type 0
+IsNumberReason least most text reason.Empty = text ≡ []
+IsNumberReason least most text reason.Sign = BeginsWithSign text
+IsNumberReason least most text reason.NotDigits = IsUnsigned text × (IsNumeral 10 text → ⊥)
+IsNumberReason least most text reason.TooLarge = IsNumeral 10 text × (2 ^ 64 ≤ digits_value 10 text)
+IsNumberReason least most text (reason.Outside number from to) = IsOutside least most text number from to
+IsNumberReason least most text reason.NoFormat = ⊥
+IsNumberReason least most text reason.NoSearcher = ⊥
+IsNumberReason least most text reason.NoTruth = ⊥
 
 -- why a text is no value of an option; every text names a file, and may be that of a word
 abbrev pub IsReason : OptionName → List ℕ → Reason → Type 0
 IsReason name.Format text why = why ≡ reason.NoFormat
-IsReason name.Player text why = IsNumberReason 1 text why
-IsReason name.From text why = IsNumberReason most_number text why
-IsReason name.Budget text why = IsNumberReason most_budget text why
+IsReason name.Player text why = IsNumberReason 0 1 text why
+IsReason name.From text why = IsNumberReason 0 most_number text why
+IsReason name.Budget text why = IsNumberReason 0 most_budget text why
 IsReason name.Search text why = why ≡ reason.NoTruth
+IsReason name.By text why = why ≡ reason.NoSearcher
+IsReason name.Effort text why = IsNumberReason 1 most_effort text why
 IsReason name.Game text why = ⊥
 IsReason name.Automaton text why = ⊥
 IsReason name.Specification text why = ⊥
@@ -68,7 +72,7 @@ IsReason name.Solution text why = ⊥
 IsReason name.Walk text why = ⊥
 IsReason name.Legend text why = why ≡ reason.NoTruth
 IsReason name.Lasso text why = why ≡ reason.NoTruth
-IsReason name.Depth text why = IsNumberReason most_number text why
+IsReason name.Depth text why = IsNumberReason 0 most_number text why
 IsReason name.Progress text why = why ≡ reason.NoTruth
 IsReason name.Stream text why = why ≡ reason.NoTruth
 IsReason name.Winners text why = why ≡ reason.NoTruth

@@ -39,6 +39,8 @@ HasOption subcommand name.From = (subcommand ≡ sub.Solve) ⊎ (subcommand ≡ 
 HasOption subcommand name.Budget =
     (subcommand ≡ sub.Solve) ⊎ (subcommand ≡ sub.Empty) ⊎ (subcommand ≡ sub.Realize)
 HasOption subcommand name.Search = (subcommand ≡ sub.Solve) ⊎ (subcommand ≡ sub.Empty)
+HasOption subcommand name.By = subcommand ≡ sub.Solve
+HasOption subcommand name.Effort = subcommand ≡ sub.Solve
 HasOption subcommand name.Game = subcommand ≡ sub.Verify
 HasOption subcommand name.Automaton = subcommand ≡ sub.Verify
 HasOption subcommand name.Specification = subcommand ≡ sub.Verify

@@ -34,10 +34,12 @@ pub enum Reason {
     NotDigits,
     /// The number is over 64 bits.
     TooLarge,
-    /// The number is above the greatest.
-    Above { number: u64, most: u64 },
+    /// The number is below the least or above the greatest.
+    Outside { number: u64, least: u64, most: u64 },
     /// No format has the name.
     NoFormat,
+    /// No searcher has the name.
+    NoSearcher,
     /// It is neither `true` nor `false`.
     NoTruth,
 }
@@ -45,14 +47,19 @@ pub enum Reason {
 impl fmt::Display for Reason {
     fn fmt<W: fmt::Write>(&self, f: &mut fmt::Formatter<W>) -> fmt::Result {
         f.write_str(match self {
-            Reason::Above { number, most } => {
-                return write!(f, "{number} is not in 0..={most}");
+            Reason::Outside {
+                number,
+                least,
+                most,
+            } => {
+                return write!(f, "{number} is not in {least}..={most}");
             }
             Reason::Empty => "cannot parse integer from empty string",
             Reason::Sign => "a number is written in digits, without a sign",
             Reason::NotDigits => "invalid digit found in string",
             Reason::TooLarge => "the number is too large",
             Reason::NoFormat => "the formats are pg and hoa",
+            Reason::NoSearcher => "the searchers are zielonka and tangles",
             Reason::NoTruth => "neither true nor false",
         })
     }

@@ -7,11 +7,11 @@ ghost use Rattle.omega_cli_command.specs.private.Numbers.{is_decimal, reason_for
 use crate::mistake::Reason;
 use std::num::IntErrorKind;
 
-/// Returns the number that `text` has in decimal digits if it is at most `most`, or why it has none.
-pub fn number_in(text: &str, most: u64) -> Result<u64, Reason>
-    ensures number { IfOk result (IsNumberText most text.now) }
-    ensures none { IfErr result (λ _. (number : ℕ) → IsNumberText most text.now number → ⊥) }
-    ensures reason { IfErr result (IsNumberReason most text.now) }
+/// Returns the number that `text` has in decimal digits if it is from `least` to `most`, or why it has none.
+pub fn number_in(text: &str, least: u64, most: u64) -> Result<u64, Reason>
+    ensures number { IfOk result (IsNumberText least most text.now) }
+    ensures none { IfErr result (λ _. (number : ℕ) → IsNumberText least most text.now number → ⊥) }
+    ensures reason { IfErr result (IsNumberReason least most text.now) }
 {
     // The numbers of `std` may begin with a plus. A plus and a minus are refused with the same reason.
     if text.starts_with('+') || text.starts_with('-') {
@@ -19,10 +19,14 @@ pub fn number_in(text: &str, most: u64) -> Result<u64, Reason>
     }
     match text.parse::<u64>() {
         Ok(number) => {
-            if number <= most {
+            if least <= number && number <= most {
                 Ok(number)
             } else {
-                Err(Reason::Above { number, most })
+                Err(Reason::Outside {
+                    number,
+                    least,
+                    most,
+                })
             }
         }
         Err(error) => Err(reason_of(error.kind(), text.as_bytes())),

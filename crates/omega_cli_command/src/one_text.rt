@@ -1,3 +1,4 @@
+use crate::searcher_name::SearcherName;
 use omega_game_values::Player;
 
 /// A command that reads one text.
@@ -32,6 +33,10 @@ pub enum OneText {
     Search {
         /// The identifier of the node whose part is solved.
         from: Option<u32>,
+        /// The searcher that is to search alone.
+        by: Option<SearcherName>,
+        /// How many times as far as without an effort each searcher may go, 1 to `MOST_EFFORT`.
+        effort: u64,
     },
     /// Says whether an automaton accepts nothing, and shows a lasso if it accepts something. Decided by lifting.
     Empty {

@@ -8,6 +8,8 @@ pub enum OptionName {
     From,
     Budget,
     Search,
+    By,
+    Effort,
     Game,
     Automaton,
     Specification,
@@ -49,6 +51,8 @@ impl fmt::Display for OptionName {
             OptionName::From => "--from <ID>",
             OptionName::Budget => "--budget <N>",
             OptionName::Search => "--search",
+            OptionName::By => "--by <SEARCHER>",
+            OptionName::Effort => "--effort <N>",
             OptionName::Game => "--game <FILE>",
             OptionName::Automaton => "--automaton <FILE>",
             OptionName::Specification => "--specification <FILE>",
@@ -94,6 +98,10 @@ pub struct Options<'a> {
     pub budget: Option<&'a str>,
     /// `true` if the flag is given; otherwise `clap` may give `false`.
     pub search: Option<&'a str>,
+    /// The name of the searcher that is to search alone, `zielonka` or `tangles`.
+    pub by: Option<&'a str>,
+    /// How many times as far each searcher may go, 1 to `MOST_EFFORT`.
+    pub effort: Option<&'a str>,
     /// The name of the file of a game.
     pub game: Option<&'a str>,
     /// The name of the file of an automaton.

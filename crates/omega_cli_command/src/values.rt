@@ -3,16 +3,17 @@ ghost use Rattle.std.specs.Prelude.{◌≡◌, Bool, Some, IfOk, IfErr, MatchOpt
 ghost use Rattle.omega_text.specs.Limits.{most_number};
 ghost use Rattle.omega_cli_command.specs.Faulty.{IsFaulty};
 ghost use Rattle.omega_cli_command.specs.Options.{GivesFormat, GivesNode, text_of};
-ghost use Rattle.omega_cli_command.specs.Values.{Gives, GivesBudget, GivesFlag, IsNumberText};
-ghost use Rattle.omega_cli_command.specs.Values.{IsPlayerText, IsTruthText};
+ghost use Rattle.omega_cli_command.specs.Values.{Gives, GivesBudget, GivesEffort, GivesFlag};
+ghost use Rattle.omega_cli_command.specs.Values.{IsNumberText, IsPlayerText, IsSearcherText, IsTruthText};
 ghost use Rattle.omega_cli_command.specs.declared.options.OptionName.TheVariants as name;
 ghost use Rattle.omega_cli_command.specs.Flags.{IsNoTruth};
 
 use crate::format::Format;
-use crate::limits::MOST_BUDGET;
+use crate::limits::{MOST_BUDGET, MOST_EFFORT};
 use crate::mistake::{Mistake, Reason};
 use crate::number::number_in;
 use crate::options::{OptionName, Options};
+use crate::searcher_name::SearcherName;
 use omega_game_values::Player;
 use omega_text::MOST_NUMBER;
 
@@ -52,7 +53,7 @@ pub fn player_in<'a>(options: &Options<'a>) -> Result<Option<Player>, Mistake<'a
     let Some(text) = options.player else {
         return Ok(None);
     };
-    match number_in(text, 1) {
+    match number_in(text, 0, 1) {
         Ok(number) => Ok(Player::of_number(number as u32)),
         Err(reason) => Err(Mistake::Value(OptionName::Player, text, reason)),
     }
@@ -66,7 +67,7 @@ pub fn identifier_in<'a>(options: &Options<'a>) -> Result<Option<u32>, Mistake<'
     let Some(text) = options.from else {
         return Ok(None);
     };
-    match number_in(text, u64::from(MOST_NUMBER)) {
+    match number_in(text, 0, u64::from(MOST_NUMBER)) {
         Ok(identifier) => Ok(Some(identifier as u32)),
         Err(reason) => Err(Mistake::Value(OptionName::From, text, reason)),
     }
@@ -74,13 +75,13 @@ pub fn identifier_in<'a>(options: &Options<'a>) -> Result<Option<u32>, Mistake<'
 
 /// Returns how many steps from that node the part goes, if that is given.
 pub fn depth_in<'a>(options: &Options<'a>) -> Result<Option<u32>, Mistake<'a>>
-    ensures given { IfOk result (Gives (IsNumberText most_number) (text_of name.Depth options.now)) }
+    ensures given { IfOk result (Gives (IsNumberText 0 most_number) (text_of name.Depth options.now)) }
     ensures faulty { IfErr result (IsFaulty name.Depth options.now) }
 {
     let Some(text) = options.depth else {
         return Ok(None);
     };
-    match number_in(text, u64::from(MOST_NUMBER)) {
+    match number_in(text, 0, u64::from(MOST_NUMBER)) {
         Ok(depth) => Ok(Some(depth as u32)),
         Err(reason) => Err(Mistake::Value(OptionName::Depth, text, reason)),
     }
@@ -122,8 +123,39 @@ pub fn budget_in<'a>(options: &Options<'a>) -> Result<u64, Mistake<'a>>
     let Some(text) = options.budget else {
         return Ok(MOST_BUDGET);
     };
-    match number_in(text, MOST_BUDGET) {
+    match number_in(text, 0, MOST_BUDGET) {
         Ok(budget) => Ok(budget),
         Err(reason) => Err(Mistake::Value(OptionName::Budget, text, reason)),
+    }
+}
+
+/// Returns the searcher that is to search alone, if one is named.
+pub fn searcher_in<'a>(options: &Options<'a>) -> Result<Option<SearcherName>, Mistake<'a>>
+    ensures given { IfOk result (Gives IsSearcherText (text_of name.By options.now)) }
+    ensures faulty { IfErr result (IsFaulty name.By options.now) }
+{
+    let Some(text) = options.by else {
+        return Ok(None);
+    };
+    if text == "zielonka" {
+        Ok(Some(SearcherName::Zielonka))
+    } else if text == "tangles" {
+        Ok(Some(SearcherName::Tangles))
+    } else {
+        Err(Mistake::Value(OptionName::By, text, Reason::NoSearcher))
+    }
+}
+
+/// Returns how many times as far each searcher may go. The default is 1.
+pub fn effort_in<'a>(options: &Options<'a>) -> Result<u64, Mistake<'a>>
+    ensures given { IfOk result (GivesEffort (text_of name.Effort options.now)) }
+    ensures faulty { IfErr result (IsFaulty name.Effort options.now) }
+{
+    let Some(text) = options.effort else {
+        return Ok(1);
+    };
+    match number_in(text, 1, MOST_EFFORT) {
+        Ok(effort) => Ok(effort),
+        Err(reason) => Err(Mistake::Value(OptionName::Effort, text, reason)),
     }
 }

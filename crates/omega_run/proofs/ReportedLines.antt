@@ -67,7 +67,7 @@ module _ {L : Type 0} (held : L → Option (List ℕ)) (failed : L → ℕ) (eve
   one_text_lines (Solve None from) (Err refusal) reported =
       let lines = observed_lines held failed (LiftsText text way.Both from) (Some refusal) every budget sound before after fits same reported.0 in
       record { text = lines.text; reported = lines.reported; holds = (lines.holds, tt) }
-  one_text_lines (Search from) made reported =
+  one_text_lines (Search from by effort) made reported =
       observed_lines held failed (LiftsText text way.Search from) (refusal_in made) every budget sound before after fits same reported
   one_text_lines (Empty word names status) made reported =
       observed_lines held failed (LiftsAutomatonText text) (refusal_in made) every budget sound before after fits same reported

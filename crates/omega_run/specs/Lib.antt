@@ -21,6 +21,7 @@ pub mod Progress
 pub mod Report
 pub mod Results
 pub mod Run
+pub mod Searching
 pub mod Streams
 pub mod TwoTexts
 pub mod World

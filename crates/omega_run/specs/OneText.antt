@@ -72,7 +72,7 @@ AnswersOneText (CanonLeast from) budget text =
 AnswersOneText (Solve player from) budget text =
     Replies (IsSolveAnswer text (asked_for player) from budget)
     (IsSolveRefusal text (asked_for player) from budget)
-AnswersOneText (Search from) budget text =
+AnswersOneText (Search from by effort) budget text =
     Replies (IsSolveAnswer text way.Search from budget) (IsSolveRefusal text way.Search from budget)
 AnswersOneText (Empty word names status) budget text =
     Concludes (EndsEmpty text budget (lines_for word names) status) (IsEmptyRefusal text budget)

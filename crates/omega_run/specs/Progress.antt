@@ -37,7 +37,7 @@ IsReportedOf tells every (Solve player from) budget text made before after =
     IsObserved (LiftsText text (asked_for player) from) (refusal_in made) tells every budget before after
     × IfOk made (λ reply.
     CountsReportedOfText tells every text (asked_for player) from budget reply.1 before after)
-IsReportedOf tells every (Search from) budget text made before after =
+IsReportedOf tells every (Search from by effort) budget text made before after =
     IsObserved (LiftsText text way.Search from) (refusal_in made) tells every budget before after
 IsReportedOf tells every (Empty word names status) budget text made before after =
     IsObserved (LiftsAutomatonText text) (refusal_in made) tells every budget before after

@@ -1,15 +1,17 @@
-ghost use Rattle.std.specs.Prelude.{◌≡◌, ◌+◌, ◌≤◌, length};
+ghost use Rattle.std.specs.Prelude.{◌≡◌, ◌+◌, ◌≤◌, None, length};
 ghost use Rattle.omega_text.specs.Limits.{most_text};
 ghost use Rattle.omega_solve.specs.Limits.{most_lifts};
 ghost use Rattle.omega_run.specs.Answers.{IsAnswer, both_texts};
 ghost use Rattle.omega_run.specs.Progress.{IsReported};
 ghost use Rattle.omega_run.specs.Results.{of_input, with_bytes};
+ghost use Rattle.omega_run.specs.Searching.{AreTurnsFor};
 
 use crate::held_text::HeldText;
 use crate::one_text::answer_one_text;
 use crate::stream::answer_stream;
 use crate::texts::Texts;
 use crate::two_texts::answer_two_texts;
+use omega_answers_game::Turns;
 use omega_cli_command::Command;
 use omega_io::{Exit, Refusal, Refused, Which};
 use omega_solve::budget::Reporter;
@@ -17,26 +19,30 @@ use std::alloc::Global;
 
 /// Returns what a command makes of its texts, with how it ends; or why they are refused, and which of them that is
 /// about. Each run of a solver makes at most `budget` lifts. Those of a command of one text are reported to the
-/// observer.
+/// observer. If a game is searched, its `turns` are those of the searchers.
 pub(crate) fn answer<L, T: Reporter<L>>(
     alloc: Global,
     command: &Command,
     texts: Texts<'_>,
     budget: u64,
+    turns: &mut Option<Turns>,
     reporter: &T,
     observer: &mut L,
 ) -> Result<(Exit, Vec<u8>), Refused>
     requires budget { budget ≤ most_lifts }
+    requires turns { turns.old ≡ None }
     requires limit { length texts.input.now ≤ most_text + 1 }
     ensures answer { IsAnswer command.now budget
         (both_texts texts.entry.other.now texts.entry.input.now) (with_bytes (λ made. made.items) result) }
+    ensures turns { AreTurnsFor command.now (with_bytes (λ made. made.items) result) turns.new }
     ensures reported { IsReported (T.tells reporter.now) (T.pace reporter.now) command.now budget
         (both_texts texts.entry.other.now texts.entry.input.now) (with_bytes (λ made. made.items) result)
         observer.old observer.new }
 {
     match command {
         Command::OneText(one) => {
-            of_input(answer_one_text(alloc, *one, texts.input, budget, reporter, observer))
+            let input = texts.input;
+            of_input(answer_one_text(alloc, *one, input, budget, turns, reporter, observer))
         }
         Command::Stream(stream) => {
             of_input(answer_stream(alloc, *stream, &mut HeldText::new(texts.input), budget))

@@ -13,6 +13,7 @@ use crate::causes::cause_about;
 use crate::format::format_of;
 use crate::lenient::strict_texts;
 use crate::reporting::{lines_about, report_lines};
+use crate::searching::tell_search;
 use crate::texts::{Held, Texts};
 use crate::writing::write_answer;
 use omega_cli_command::{Command, Format, Task};
@@ -112,9 +113,19 @@ fn run_held<W: Output, E: Output>(
         (written_to W.Output output.old) (written_to W.Output output.new) }
 {
     let sound = errors.failures();
-    let outcome = write_answer(alloc, held.command, task, held.read, output, errors);
+    let mut turns = None;
+    let outcome = write_answer(
+        alloc,
+        held.command,
+        task,
+        held.read,
+        &mut turns,
+        output,
+        errors,
+    );
+    tell_search(errors, sound, task.verbose, turns);
     if errors.failures() > sound {
-        // The lines of progress broke off, and those of a refusal are of the same text.
+        // The lines of progress and of the search broke off, and those of a refusal are of the same text.
         return status_of(outcome);
     }
     let failure = failure_of(None, output);

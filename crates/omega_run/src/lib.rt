@@ -16,6 +16,7 @@ mod one_text;
 mod progress;
 mod reporting;
 mod running;
+mod searching;
 mod stream;
 mod text_kind;
 mod texts;
@@ -26,7 +27,7 @@ pub use held_text::HeldText;
 pub use laws::budgets_are_of_solvers;
 pub use obeying::obey;
 pub use omega_cli_command::{
-    Command, Format, OneText, Other, Player, Request, Source, Stream, Task, TwoTexts,
+    Command, Format, OneText, Other, Player, Request, SearcherName, Source, Stream, Task, TwoTexts,
 };
 pub use omega_io::{
     Exit, FromRead, HostFiles, Input, InputFiles, Output, Reason, Refusal, Refused, ToWrite,

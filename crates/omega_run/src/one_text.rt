@@ -1,5 +1,5 @@
 //! What each command makes of its one text.
-ghost use Rattle.std.specs.Prelude.{◌≡◌, ◌≤◌, Ok, Err, IfOk, IfErr};
+ghost use Rattle.std.specs.Prelude.{◌≡◌, ◌≤◌, Ok, Err, IfOk, IfErr, None};
 ghost use Rattle.omega_text.specs.Cases.{or_memory};
 ghost use Rattle.omega_answers_synth.specs.Observing.{LiftsText};
 ghost use Rattle.omega_answers_synth.specs.Refusing.{IsRealizeRefusal};
@@ -9,6 +9,7 @@ ghost use Rattle.omega_solve.specs.Limits.{most_lifts};
 ghost use Rattle.omega_run.specs.OneText.{AnswersOneText, asked_for};
 ghost use Rattle.omega_run.specs.Progress.{IsReportedOf};
 ghost use Rattle.omega_run.specs.Results.{with_bytes};
+ghost use Rattle.omega_run.specs.Searching.{AreTurnsOf, searching_by};
 
 use omega_answers_automaton::{complement_text, trim_text};
 use omega_answers_empty::{
@@ -16,35 +17,39 @@ use omega_answers_empty::{
     write_emptiness_game,
 };
 use omega_answers_game::{
-    Asked, canon_game, canon_least, canon_part, check_game, draw_game_text, show_game, show_json,
-    solve_game,
+    Asked, Searcher, Searching, Turns, canon_game, canon_least, canon_part, check_game,
+    draw_game_text, show_game, show_json, solve_game,
 };
 use omega_answers_synth::{
     decide_realizability, decide_realizability_by_lifting, write_realizability_game, write_winner,
     write_winner_by_lifting,
 };
-use omega_cli_command::OneText;
+use omega_cli_command::{OneText, SearcherName};
 use omega_game_values::Player;
 use omega_io::{Exit, Refusal};
 use omega_solve::budget::Reporter;
 use std::alloc::Global;
 
 /// Returns what a command makes of its text, with how it ends, or why the text is refused. Each run of a solver makes
-/// at most `budget` lifts, and is reported to the observer.
+/// at most `budget` lifts, and is reported to the observer. If a game is searched, its `turns` are those of the
+/// searchers.
 pub(crate) fn answer_one_text<L, T: Reporter<L>>(
     alloc: Global,
     command: OneText,
     text: &[u8],
     budget: u64,
+    turns: &mut Option<Turns>,
     reporter: &T,
     observer: &mut L,
 ) -> Result<(Exit, Vec<u8>), Refusal>
     requires budget { budget ≤ most_lifts }
+    requires turns { turns.old ≡ None }
     ensures answered { IfOk result
         (λ made. AnswersOneText command budget text.now (Ok (made.0, made.1.items))) }
     ensures refused { IfErr result
         (or_memory (λ refusal. AnswersOneText command budget text.now (Err refusal))) }
     ensures unfailed { failures_of result ≡ 0 }
+    ensures turns { AreTurnsOf command (with_bytes (λ made. made.items) result) turns.new }
     ensures reported { IsReportedOf (T.tells reporter.now) (T.pace reporter.now) command budget
         text.now (with_bytes (λ made. made.items) result) observer.old observer.new }
 {
@@ -57,12 +62,33 @@ pub(crate) fn answer_one_text<L, T: Reporter<L>>(
         OneText::CanonLeast { from } => Ok((Exit::Done, canon_least(alloc, text, from)?)),
         OneText::Solve { player, from } => {
             let asked = asked_for(player);
-            let made = solve_game(alloc, text, asked, from, budget, reporter, observer)?;
-            Ok((Exit::Done, made))
+            let mut searching = Searching::plainly();
+            let made = solve_game(
+                alloc,
+                text,
+                asked,
+                &mut searching,
+                from,
+                budget,
+                reporter,
+                observer,
+            );
+            Ok((Exit::Done, made?))
         }
-        OneText::Search { from } => {
-            let made = solve_game(alloc, text, Asked::Search, from, budget, reporter, observer)?;
-            Ok((Exit::Done, made))
+        OneText::Search { from, by, effort } => {
+            let mut searching = searching_by(by, effort);
+            let made = solve_game(
+                alloc,
+                text,
+                Asked::Search,
+                &mut searching,
+                from,
+                budget,
+                reporter,
+                observer,
+            );
+            *turns = searching.turns;
+            Ok((Exit::Done, made?))
         }
         OneText::Empty {
             word,
@@ -108,5 +134,21 @@ fn asked_for(player: Option<Player>) -> Asked
     match player {
         Some(player) => Asked::Player(player),
         None => Asked::Both,
+    }
+}
+
+/// Returns how a game is searched: by the searcher of this name alone, or by both if none is named.
+fn searching_by(name: Option<SearcherName>, effort: u64) -> Searching
+    ensures { result ≡ searching_by name effort }
+{
+    let alone = match name {
+        Some(SearcherName::Zielonka) => Some(Searcher::Zielonka),
+        Some(SearcherName::Tangles) => Some(Searcher::Tangles),
+        None => None,
+    };
+    Searching {
+        alone,
+        effort,
+        turns: None,
     }
 }

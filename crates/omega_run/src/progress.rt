@@ -39,7 +39,7 @@ impl<E: Output> Reporter<E> for ProgressLines {
 }
 
 /// Writes a number in decimal after the text so far, unless more than `sound` writes have failed. It takes no memory.
-fn tell_number<E: Output>(errors: &mut E, sound: u64, number: u64)
+pub(crate) fn tell_number<E: Output>(errors: &mut E, sound: u64, number: u64)
     ensures { TellsOn sound (E.contents errors.old) (E.contents errors.new) (E.failed errors.old)
         (E.failed errors.new) (decimal number) }
 {
@@ -48,7 +48,7 @@ fn tell_number<E: Output>(errors: &mut E, sound: u64, number: u64)
 }
 
 /// Writes a text after the text so far, unless more than `sound` writes have failed.
-fn tell_on<E: Output>(errors: &mut E, sound: u64, text: &[u8])
+pub(crate) fn tell_on<E: Output>(errors: &mut E, sound: u64, text: &[u8])
     ensures { TellsOn sound (E.contents errors.old) (E.contents errors.new) (E.failed errors.old)
         (E.failed errors.new) text.now }
 {

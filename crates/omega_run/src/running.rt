@@ -41,11 +41,13 @@ pub fn run_command<R: Input, W: Output>(
     match read_all(alloc, input) {
         Ok(text) => {
             let input = text.as_slice();
+            let mut turns = None;
             let made = answer(
                 alloc,
                 command,
                 Texts { other, input },
                 budget,
+                &mut turns,
                 &NoObserver,
                 &mut (),
             );

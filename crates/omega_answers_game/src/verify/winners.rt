@@ -20,6 +20,7 @@ use crate::dropping::{drop_game, drop_whole};
 use crate::numbered::append_numbered;
 use crate::player_text::append_player;
 use crate::solve::searched::searched_solution;
+use crate::solve::searching::Searching;
 use omega_game::{ForwardGame, Game, Player, Refusal, Solution};
 use omega_io::{Answer, Exit, Refused, Which};
 use omega_pg::{read_winners, write_solution};
@@ -121,7 +122,15 @@ fn verdict_by_search(
         (λ made. IsWinnersVerdict game.now winners.now explain made.0 made.1.items) }
     ensures refused { IfErr result (IsSolveGameRefusal game.now Search None most_lifts) }
 {
-    let solution = searched_solution(alloc, game, MOST_LIFTS, &NoObserver, &mut ())?;
+    let mut searching = Searching::plainly();
+    let solution = searched_solution(
+        alloc,
+        game,
+        &mut searching,
+        MOST_LIFTS,
+        &NoObserver,
+        &mut (),
+    )?;
     verdict_by(alloc, game.forward_game(), &solution, winners, explain)
 }
 

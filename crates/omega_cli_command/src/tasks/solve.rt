@@ -9,7 +9,7 @@ use crate::mistake::Mistake;
 use crate::one_text::OneText;
 use crate::options::{OptionName, Options};
 use crate::task::Task;
-use crate::values::{budget_in, identifier_in, is_set, player_in};
+use crate::values::{budget_in, effort_in, identifier_in, is_set, player_in, searcher_in};
 
 /// Returns the task that `solve` requests with `options`, or what is wrong with them.
 pub(crate) fn solve_task<'a>(options: &Options<'a>) -> Result<Task, Mistake<'a>>
@@ -21,17 +21,22 @@ pub(crate) fn solve_task<'a>(options: &Options<'a>) -> Result<Task, Mistake<'a>>
     let budget = budget_in(options)?;
     let progress = is_set(OptionName::Progress, options.progress)?;
     let search = is_set(OptionName::Search, options.search)?;
-    if search && player.is_some() {
-        return Err(Mistake::Conflict(OptionName::Search, OptionName::Player));
-    }
-    let command = Command::OneText(if search {
-        OneText::Search { from }
+    let by = searcher_in(options)?;
+    let effort = effort_in(options)?;
+    let asked = if search {
+        if player.is_some() {
+            return Err(Mistake::Conflict(OptionName::Search, OptionName::Player));
+        }
+        OneText::Search { from, by, effort }
     } else {
+        if options.by.is_some() || options.effort.is_some() {
+            return Err(Mistake::Missing(OptionName::Search));
+        }
         OneText::Solve { player, from }
-    });
+    };
     Ok(Task {
         budget,
         progress,
-        ..Task::of(command)
+        ..Task::of(Command::OneText(asked))
     })
 }

@@ -13,5 +13,5 @@ returns-in-Err-clause-reason c =
     let text = c.args.text.now in
     let unsigned : BeginsWithSign text → ⊥ = search rules in
     let reported : c.reason_of.result ≡ reason_for (list_all is_decimal text) (error_kind c.in-Err.error) = search rules in
-    subst (λ (reason : Reason). IsNumberReason c.args.most text reason) (sym reported)
-    (reported_after c.args.most text (error_kind c.in-Err.error) unsigned c.in-Err.ensures.value.1 c.in-Err.ensures.value.0)
+    subst (λ (reason : Reason). IsNumberReason c.args.least c.args.most text reason) (sym reported)
+    (reported_after c.args.least c.args.most text (error_kind c.in-Err.error) unsigned c.in-Err.ensures.value.1 c.in-Err.ensures.value.0)

@@ -13,6 +13,7 @@ returns-then-not-task g c = (
   [],
   c.answer-made.ensures.answer,
   rw c.if-not-task.true refl,
+  c.answer-made.ensures.turns,
   c.write_made.ensures,
   nothing_reported _ _,
 )
@@ -26,6 +27,7 @@ returns g c =
       lines.text,
       c.answer-made-2.ensures.answer,
       rw c.if-not-task.false lines.holds,
+      c.answer-made-2.ensures.turns,
       c.write_made-2.ensures,
       lines.reported,
     )

@@ -13,7 +13,7 @@ returns-then-is_none-clause-mistaken c =
       one = name.Depth;
       needed = (refl, refl);
       one_used =
-          given_some (IsNumberText most_number) (text_of name.Depth c.args.options.now) c.in_ok-depth.depth c.in_ok-depth.ensures.given (sym c.if-is_some.ensures);
+          given_some (IsNumberText 0 most_number) (text_of name.Depth c.args.options.now) c.in_ok-depth.depth c.in_ok-depth.ensures.given (sym c.if-is_some.ensures);
       missing = λ used. used
-          (given_none (IsNumberText most_number) (text_of name.From c.args.options.now) c.in_ok-from.from c.in_ok-from.ensures.given c.if-is_none.ensures);
+          (given_none (IsNumberText 0 most_number) (text_of name.From c.args.options.now) c.in_ok-from.from c.in_ok-from.ensures.given c.if-is_none.ensures);
     })
