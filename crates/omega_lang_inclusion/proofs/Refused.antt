@@ -11,7 +11,7 @@ use Rattle.omega_text.specs.declared.refusal.Refusal.{Refusal}
 use Rattle.omega_text.specs.declared.refusal.Refusal.TheVariants.{Automaton, Game, Io, Memory, Task, Text}
 use Rattle.omega_text.specs.declared.refusal.task.TaskFault.{TaskFault}
 use Rattle.omega_text.specs.declared.refusal.task.TaskFault.TheVariants.{NotDeterministic}
-use Rattle.omega_lang_inclusion.specs.Opening.{HasUnjudgedName, IsUnjudgedWith, first_label, literal_of, number_among}
+use Rattle.omega_lang_inclusion.specs.Opening.{HasUnjudgedName, IsUnjudgedWith, first_label, literal_of, place_among}
 use Rattle.omega_lang_inclusion.specs.WordRefusing as refusing
 use Rattle.omega_lang_inclusion.specs.WordRefusing.{HasChoice, IsMembershipRefusal, IsNoChoice, IsOneWordRefusal}
 use Rattle.omega_lang_inclusion.specs.private.Choosing.{choice_in}
@@ -85,7 +85,7 @@ unjudged_io held unheld (Some label) (inr is) = is
 names_io : (one : Description) (names : List (List ℕ)) → HasUnjudgedName one names Io → ⊥
 names_io one names (name, has, inl e) = cc
 names_io one names (name, has, inr (state, there, is)) =
-    let number : ℕ = number_among one.propositions name in
+    let number : ℕ = place_among one.propositions name in
     unjudged_io (literal_of number true) (literal_of number false) (first_label state.edges) is
 
 one_io : (one a : Description) → IsOneWordRefusal one a Io → ⊥

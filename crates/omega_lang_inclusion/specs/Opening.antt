@@ -10,9 +10,9 @@ use Rattle.omega_hoa_label.specs.Label.{LabelTree, conjunction, negation, propos
 use Rattle.omega_text.specs.declared.refusal.Refusal.{Refusal}
 use Rattle.omega_text.specs.declared.refusal.Refusal.TheVariants.{Memory}
 
--- the number of a name among names, or their count if it is not among them
-abbrev pub number_among : List (List ℕ) → List ℕ → ℕ
-number_among names name = position_or_len (bytes_eq name) names
+-- the place of a name among names, or their count if it is not among them
+abbrev pub place_among : List (List ℕ) → List ℕ → ℕ
+place_among names name = position_or_len (bytes_eq name) names
 
 -- that a proposition holds, or that it does not
 abbrev pub literal_of : ℕ → Bool → LabelTree
@@ -38,7 +38,7 @@ HasUnjudgedState held unheld states refusal = (state : State) × Contains states
 -- it is not judged whether a label can be true with the proposition of this name, or without it; or memory is wanting
 abbrev pub IsUnjudgedName : Description → List ℕ → Refusal → Type 0
 IsUnjudgedName one name refusal =
-    let number = number_among one.propositions name in (refusal ≡ Memory)
+    let number = place_among one.propositions name in (refusal ≡ Memory)
     ⊎ HasUnjudgedState (literal_of number true) (literal_of number false) one.defined refusal
 
 -- so it is with one of some names

@@ -4,4 +4,3 @@ pub mod Named
 pub mod Opened
 pub mod Telling
 pub mod Choosing
-pub mod Writing

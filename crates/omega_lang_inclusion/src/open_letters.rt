@@ -7,7 +7,7 @@ ghost use Rattle.omega_lang_inclusion.specs.Opening.{HasUnjudgedName};
 ghost use Rattle.omega_lang_inclusion.specs.private.Opened.{CanBeBoth, HasOpenName, HasOpenState};
 ghost use Rattle.omega_lang_inclusion.specs.Opening.{HasUnjudgedState, IsUnjudgedName};
 ghost use Rattle.omega_lang_inclusion.specs.private.Opened.{IsOpenName};
-ghost use Rattle.omega_lang_inclusion.specs.Opening.{IsUnjudgedWith, first_label, literal_of, number_among};
+ghost use Rattle.omega_lang_inclusion.specs.Opening.{IsUnjudgedWith, first_label, literal_of, place_among};
 ghost use Rattle.std.specs.Prelude.{Some};
 
 use omega_hoa_automaton::{Automaton, State};
@@ -40,16 +40,16 @@ fn is_open_name(alloc: Global, one: &Automaton, name: &[u8]) -> Result<bool, Ref
     ensures refused { IfErr result (IsUnjudgedName one.now name.now) }
 {
     one.keeps_limits();
-    let number = number_among(one.propositions(), name);
+    let number = place_among(one.propositions(), name);
     let held = literal(alloc, number, true)?;
     let unheld = literal(alloc, number, false)?;
     has_open_state(alloc, one.defined(), &held, &unheld)
 }
 
 /// Returns the position of `name` in `names`, or their count if it is not there.
-fn number_among(names: &[ByteString], name: &[u8]) -> u32
+fn place_among(names: &[ByteString], name: &[u8]) -> u32
     requires { length names.now < 2 ^ 32 }
-    ensures { result ≡ number_among names.now name.now }
+    ensures { result ≡ place_among names.now name.now }
 {
     for (place, other) in names.iter().enumerate() {
         if name == other.as_slice() {

@@ -4,7 +4,7 @@ use Rattle.omega_hoa_automaton.specs.Automaton.{Description}
 use Rattle.omega_hoa_automaton.specs.declared.state.State.{State}
 use Rattle.omega_hoa_label.specs.Label.{LabelTree, conjunction}
 use Rattle.omega_hoa_satisfiable.specs.Satisfiable.{IsSatisfiable}
-use Rattle.omega_lang_inclusion.specs.Opening.{first_label, literal_of, number_among}
+use Rattle.omega_lang_inclusion.specs.Opening.{first_label, literal_of, place_among}
 
 -- there is a label, and it can be true with the one literal and with the other
 abbrev pub CanBeBoth : (held unheld : LabelTree) → Option LabelTree → Type 0
@@ -20,7 +20,7 @@ HasOpenState held unheld states =
 -- the label of a state of the automaton of a word can be true with the proposition of this name, and without it
 abbrev pub IsOpenName : Description → List ℕ → Type 0
 IsOpenName one name =
-    let number = number_among one.propositions name in
+    let number = place_among one.propositions name in
     HasOpenState (literal_of number true) (literal_of number false) one.defined
 
 -- so it is with one of some names
