@@ -1,16 +1,20 @@
 -- Refusals of membership: for a choice or not, and never for a failed read or write.
-use Rattle.std.proofs.Common.{◌≡◌, ◌⊎◌, inl, inr, ℕ, true, false, List, Option, Some, None, refl, sym, ap, subst, ◌∙◌}
+use Rattle.std.proofs.Common.{◌≡◌, ◌⊎◌, inl, inr, ℕ, true, false, List, Option, Some, None, refl, sym, ap, subst, ◌∙◌, true≢false}
 use Rattle.omega_hoa_automaton.specs.Automaton.{Description}
 use Rattle.omega_hoa_edges.specs.AutomatonLabels.{labels_at}
 use Rattle.omega_hoa_edges.specs.Refusing.{AreUnjudged, IsFirstClash, IsFirstUndecided, IsSecondStart, IsStartRefusal, IsUndecidedFault}
+use Rattle.omega_hoa_automaton.specs.Branching.{has_universal_branching}
 use Rattle.omega_lang_complement.specs.Refusing.{IsComplementFault}
+use Rattle.omega_lang_lasso_search.specs.Searching.{IsSearchRefusal}
+use Rattle.omega_lang_product.specs.Refusing.{HaveNoBranch}
+use Rattle.omega_lang_word_laws.proofs.parting.Plain.{or_parts}
 use Rattle.omega_lang_inclusion.specs.Refusing.{IsContainmentRefusal, no_memory, not_complemented, not_met}
 use Rattle.omega_hoa_label.specs.Label.{LabelTree}
 use Rattle.omega_lang_lasso_word.specs.declared.symbolic_word.SymbolicWord.{SymbolicWord}
 use Rattle.omega_text.specs.declared.refusal.Refusal.{Refusal}
 use Rattle.omega_text.specs.declared.refusal.Refusal.TheVariants.{Automaton, Game, Io, Memory, Task, Text}
 use Rattle.omega_text.specs.declared.refusal.task.TaskFault.{TaskFault}
-use Rattle.omega_text.specs.declared.refusal.task.TaskFault.TheVariants.{NotDeterministic}
+use Rattle.omega_text.specs.declared.refusal.task.TaskFault.TheVariants.{NotDeterministic, TooManyPropositions, UniversalBranch}
 use Rattle.omega_lang_inclusion.specs.Opening.{HasUnjudgedName, IsUnjudgedWith, first_label, literal_of, place_among}
 use Rattle.omega_lang_inclusion.specs.WordRefusing as refusing
 use Rattle.omega_lang_inclusion.specs.WordRefusing.{HasChoice, IsMembershipRefusal, IsNoChoice, IsOneWordRefusal}
@@ -88,9 +92,17 @@ names_io one names (name, has, inr (state, there, is)) =
     let number : ℕ = place_among one.propositions name in
     unjudged_io (literal_of number true) (literal_of number false) (first_label state.edges) is
 
+-- the search in the automaton of a word that was joined with another is refused for a letter, or for want of memory
+pub search_refused : (one a : Description) → HaveNoBranch one a → (refusal : Refusal) → IsSearchRefusal one refusal → IsOneWordRefusal one a refusal
+search_refused one a plain (Task UniversalBranch) is =
+    absurd (true≢false (sym is ∙ (or_parts (has_universal_branching one) (has_universal_branching a) plain).0))
+search_refused one a plain (Task TooManyPropositions) is = refusing.undecided_letter is.1 refl
+search_refused one a plain Memory is = refusing.not_met tt
+search_refused one a plain refusal is = absurd is
+
 one_io : (one a : Description) → IsOneWordRefusal one a Io → ⊥
 one_io one a (refusing.not_met refused) = refused
-one_io one a (refusing.not_found refused) = refused
+one_io one a (refusing.undecided_letter hard e) = cc
 
 -- nor is membership
 pub membership_io : (word : SymbolicWord) (a : Description) → IsMembershipRefusal word a Io → ⊥

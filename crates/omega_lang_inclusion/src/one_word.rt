@@ -51,7 +51,8 @@ pub(crate) fn membership_of_one(
 }
 
 /// Returns whether `automaton` accepts each word that `one` does, the automaton of a symbolic word of which it sees one
-/// word at most. Fails as `pair_graph` does for both, or else as `lasso` does for `one`.
+/// word at most. Fails as `pair_graph` does for both, or else with [TaskFault::TooManyPropositions] if it is undecided
+/// whether a letter can be true.
 fn membership_of_word(
     alloc: Global,
     one: &Automaton,
@@ -72,6 +73,7 @@ fn membership_of_word(
 /// Whether some word is accepted by both automata. Fails as `pair_graph` does.
 fn meets(alloc: Global, one: &Automaton, automaton: &Automaton) -> Result<bool, Refusal>
     ensures right { IfOk result (λ found. IsTrue found ↔ AcceptCommon one.now automaton.now) }
+    ensures plain { OnOk result (HaveNoBranch one.now automaton.now) }
     ensures refused { IfErr result (IsOneWordRefusal one.now automaton.now) }
 {
     match pair_graph(alloc, one, automaton) {

@@ -9,7 +9,7 @@ use Rattle.omega_hoa_label.specs.Label.{LabelTree}
 use Rattle.omega_lang_lasso_word.specs.declared.symbolic_word.SymbolicWord.{SymbolicWord}
 use Rattle.omega_lang_inclusion.specs.OneWord.{HasOpenLetter}
 use Rattle.omega_lang_inclusion.specs.Opening.{HasUnjudgedName, IsUnjudgedWith}
-use Rattle.omega_lang_inclusion.specs.WordRefusing.{HasChoice, IsMembershipRefusal, IsOneWordRefusal, has_open_letter, no_memory, not_contained, not_found, not_judged, not_met, not_one, oversized}
+use Rattle.omega_lang_inclusion.specs.WordRefusing.{HasChoice, IsMembershipRefusal, IsOneWordRefusal, has_open_letter, no_memory, not_contained, not_judged, not_met, not_one, oversized, undecided_letter}
 
 -- the refusal for a choice in a state
 abbrev choice_at : ℕ → Refusal
@@ -36,7 +36,7 @@ no_name one names state (name, within, inr (its, among, is)) = no_labels _ _ _ s
 -- nor one for the one word
 no_word : (one a : Description) (state : ℕ) → IsOneWordRefusal one a (choice_at state) → ⊥
 no_word one a state (not_met is) = is
-no_word one a state (not_found is) = is
+no_word one a state (undecided_letter hard e) = cc
 
 same_state : (state other : ℕ) → choice_at state ≡ choice_at other → other ≡ state
 same_state state other e = cc
