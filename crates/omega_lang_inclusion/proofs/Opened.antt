@@ -18,8 +18,8 @@ use Rattle.omega_lang_lasso_word.specs.declared.symbolic_word.SymbolicWord.{Symb
 use Rattle.omega_lang_product.proofs.Holding.{and_both, both_and, truth_same}
 use Rattle.omega_lang_word_laws.proofs.naming.Named.{own_place}
 use Rattle.omega_lang_inclusion.specs.OneWord.{Fixes, HasOpenLetter, IsOneWordFor, LeavesOpen}
-use Rattle.omega_lang_inclusion.specs.Opening.{first_label, literal_of, place_among}
-use Rattle.omega_lang_inclusion.specs.private.Opened.{CanBeBoth, HasOpenName}
+use Rattle.omega_lang_inclusion.specs.Opening.{literal_of, place_among}
+use Rattle.omega_lang_inclusion.specs.private.Opened.{CanBeBoth, HasOpenName, first_label}
 use Rattle.omega_lang_inclusion.specs.Written.{IsWordAutomaton, letter_count, letters_of}
 use Rattle.omega_lang_inclusion.proofs.Edges.{IsLetterState, letter_of_state, state_of_letter}
 use Rattle.omega_lang_inclusion.proofs.WordLetters.{letter_worth}

@@ -3,11 +3,10 @@
 ghost use Rattle.std.specs.Prelude.{◌≡◌, ◌↔◌, ◌<◌, ◌^◌, length, IfErr, IfOk, IsOkUnless, IsTrue};
 ghost use Rattle.std.specs.Option.{option_copied};
 ghost use Rattle.omega_hoa_label.specs.Postfix.{postfix};
-ghost use Rattle.omega_lang_inclusion.specs.Opening.{HasUnjudgedName};
+ghost use Rattle.omega_lang_inclusion.specs.Opening.{literal_of, place_among};
 ghost use Rattle.omega_lang_inclusion.specs.private.Opened.{CanBeBoth, HasOpenName, HasOpenState};
-ghost use Rattle.omega_lang_inclusion.specs.Opening.{HasUnjudgedState, IsUnjudgedName};
-ghost use Rattle.omega_lang_inclusion.specs.private.Opened.{IsOpenName};
-ghost use Rattle.omega_lang_inclusion.specs.Opening.{IsUnjudgedWith, first_label, literal_of, place_among};
+ghost use Rattle.omega_lang_inclusion.specs.private.Opened.{HasUnjudgedState, IsNameRefusal, IsOpenName};
+ghost use Rattle.omega_lang_inclusion.specs.private.Opened.{IsUnjudgedName, IsUnjudgedWith, first_label};
 ghost use Rattle.std.specs.Prelude.{Some};
 
 use omega_hoa_automaton::{Automaton, State};
@@ -24,7 +23,7 @@ pub(crate) fn has_open_name(
     names: &[ByteString],
 ) -> Result<bool, Refusal>
     ensures right { IfOk result (λ found. IsTrue found ↔ HasOpenName one.now names.now) }
-    ensures refused { IfErr result (HasUnjudgedName one.now names.now) }
+    ensures refused { IfErr result (IsNameRefusal one.now names.now) }
 {
     for name in names {
         if is_open_name(alloc, one, name.as_slice())? {
