@@ -1,6 +1,6 @@
 -- The answer of `accepts` for the text of a word and that of an automaton, which is deterministic or sees one word at
 -- most: whether the automaton accepts each word that the letters admit. Propositions that have one name are the same.
-use Rattle.std.specs.Prelude.{◌⊎◌, Bool, List, ℕ, ◌++◌, codes}
+use Rattle.std.specs.Prelude.{◌⊎◌, Bool, List, ℕ}
 use Rattle.omega_hoa_automaton.specs.Automaton.{Description}
 use Rattle.omega_hoa.specs.Alone.{IsAutomatonRefusal, IsAutomatonText}
 use Rattle.omega_io.specs.declared.exit.Exit.{Exit}
@@ -17,10 +17,7 @@ use Rattle.omega_answers.specs.Choice.{IsRefusedFor}
 use Rattle.omega_answers.specs.TwoTexts.{IsEitherRefused, OfBoth}
 use Rattle.omega_io.specs.declared.answer.Answer.{Answer}
 use Rattle.omega_io.specs.declared.answer.Answer.TheVariants.{Yes}
-
--- the line of words
-abbrev pub word_line : List ℕ → List ℕ
-word_line words = codes "word " ++ (words ++ codes "\n")
+use Rattle.omega_answers_inclusion.specs.Example.{word_line}
 
 -- `yes`, or `no`, explained by words that are not accepted
 abbrev pub membership_answer : (explain : Bool) → Membership → Answer

@@ -1,16 +1,18 @@
-ghost use Rattle.std.specs.Prelude.{◌≡◌, ◌++◌, IfErr, IfOk, IsOkUnless};
+ghost use Rattle.std.specs.Prelude.{◌≡◌, IfErr, IfOk, IsOkUnless};
 ghost use Rattle.omega_lang_inclusion.specs.WordRefusing.{IsMembershipRefusal};
 ghost use Rattle.omega_io.specs.Answer.{explained};
 ghost use Rattle.omega_answers.specs.Choice.{IsRefusedFor};
 ghost use Rattle.omega_answers_inclusion.specs.Accepts.{IsAcceptsAnswer, IsAcceptsRefused};
-ghost use Rattle.omega_answers_inclusion.specs.Accepts.{IsMembershipVerdict, membership_answer, word_line};
+ghost use Rattle.omega_answers_inclusion.specs.Accepts.{IsMembershipVerdict, membership_answer};
+ghost use Rattle.omega_answers_inclusion.specs.Example.{word_line};
 
+use crate::word_line::append_word_line;
 use omega_answers::{Answer, refused_for};
 use omega_hoa::read_one;
 use omega_hoa_automaton::{Automaton, Refusal};
 use omega_io::{Exit, Refused, Which};
 use omega_lang_inclusion::{Membership, accepts};
-use omega_lang_lasso_word::SymbolicWord;
+use omega_lang_lasso_word::{LassoWord, SymbolicWord};
 use omega_lang_word_text::read_word;
 use std::alloc::Global;
 
@@ -91,22 +93,20 @@ fn membership_answer(
     match membership {
         Membership::Accepted => Ok(Answer::Yes),
         Membership::Rejected(words) => {
-            let lines = word_lines(alloc, words.as_slice(), explain)?;
+            let lines = word_lines(alloc, words, explain)?;
             Ok(Answer::no_with(lines))
         }
     }
 }
 
 /// Returns the line of `words` if `explain` is set, and else nothing.
-fn word_lines(alloc: Global, words: &[u8], explain: bool) -> Result<Vec<u8>, Refusal>
+fn word_lines(alloc: Global, words: &LassoWord, explain: bool) -> Result<Vec<u8>, Refusal>
     ensures lines { IfOk result (λ lines. lines.items ≡ explained explain (word_line words.now)) }
     ensures memory { IsOkUnless result Refusal.Memory }
 {
     let mut out = Vec::new(alloc);
     if explain {
-        out.extend_from_slice(b"word ")?;
-        out.extend_from_slice(words)?;
-        out.extend_from_slice(b"\n")?;
+        append_word_line(alloc, words, &mut out)?;
     }
     Ok(out)
 }

@@ -2,9 +2,9 @@ ghost use Rattle.std.specs.Prelude.{◌≡◌, ◌++◌, IfOk, IsOkUnless, OnOk}
 ghost use Rattle.omega_io.specs.Answer.{explained};
 ghost use Rattle.omega_answers_inclusion.specs.Example.{example_lines};
 
+use crate::word_line::append_word_line;
 use omega_lang_inclusion::Counterexample;
 use omega_lang_lasso_text::write_lasso;
-use omega_lang_lasso_word::lasso_word_text;
 use omega_text::Refusal;
 use std::alloc::Global;
 
@@ -34,9 +34,5 @@ fn append_lines(alloc: Global, example: &Counterexample, out: &mut Vec<u8>) -> R
 {
     let lasso = write_lasso(alloc, example.stem.as_slice(), example.cycle.as_slice())?;
     out.extend_from_slice(lasso.as_slice())?;
-    let word = lasso_word_text(alloc, &example.word)?;
-    out.extend_from_slice(b"word ")?;
-    out.extend_from_slice(word.as_slice())?;
-    out.extend_from_slice(b"\n")?;
-    Ok(())
+    append_word_line(alloc, &example.word, out)
 }

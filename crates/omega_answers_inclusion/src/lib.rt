@@ -7,6 +7,7 @@ mod accepts;
 mod contained;
 mod equal;
 mod example;
+mod word_line;
 
 pub use accepts::accepts_text;
 pub use contained::{contained_automata, contained_texts};

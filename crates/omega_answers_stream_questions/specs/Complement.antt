@@ -7,7 +7,7 @@ use Rattle.omega_lang_complement.specs.Refusing.{IsUncomplemented}
 use Rattle.omega_answers_automaton.specs.Complement.{IsComplementText}
 use Rattle.omega_answers_stream.specs.Answer.{Answer}
 use Rattle.omega_answers_stream.specs.Asking.{IsAnswered, IsAskingRefusal}
-use Rattle.omega_answers_stream_questions.specs.Items.{AnswersItem, RefusesAutomaton, no_answer}
+use Rattle.omega_answers_stream_questions.specs.Items.{AnswersItem, RefusesAutomaton, nothing_written}
 
 -- the answer of `complement` for an automaton
 abbrev pub IsComplementedAnswer : Description → Answer → Type 0
@@ -15,9 +15,9 @@ IsComplementedAnswer automaton answer = IsComplementText automaton answer.text �
 
 -- the answers of `complement --stream`, one after the other
 abbrev pub AreComplementAnswers : List ℕ → List ℕ → Bool → Type 0
-AreComplementAnswers text = IsAnswered (AnswersItem IsComplementedAnswer no_answer) text
+AreComplementAnswers text = IsAnswered (AnswersItem IsComplementedAnswer nothing_written) text
 
 -- the refusal of `complement --stream`: that of the text, or else that of the first automaton that is refused
 abbrev pub IsComplementStreamRefusal : List ℕ → Refusal → Type 0
-IsComplementStreamRefusal text = IsAskingRefusal (AnswersItem IsComplementedAnswer no_answer)
+IsComplementStreamRefusal text = IsAskingRefusal (AnswersItem IsComplementedAnswer nothing_written)
     (RefusesAutomaton IsUncomplemented) text

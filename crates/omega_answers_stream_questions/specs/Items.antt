@@ -27,6 +27,6 @@ exit_for true = No
 abbrev pub aborted_line : Answer
 aborted_line = record { text = codes "aborted\n"; no = false }
 
--- no text
-abbrev pub no_answer : Answer
-no_answer = record { text = []; no = false }
+-- nothing is written
+abbrev pub nothing_written : Answer
+nothing_written = record { text = []; no = false }

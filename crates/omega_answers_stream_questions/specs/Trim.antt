@@ -7,7 +7,7 @@ use Rattle.omega_answers_stream.specs.Answer.{Answer}
 use Rattle.omega_answers_stream.specs.Asking.{IsAnswered, IsAskingRefusal}
 use Rattle.omega_lang_trim.specs.Refusing.{IsTrimRefusal}
 use Rattle.omega_answers_automaton.specs.Trim.{IsTrimText}
-use Rattle.omega_answers_stream_questions.specs.Items.{AnswersItem, RefusesAutomaton, no_answer}
+use Rattle.omega_answers_stream_questions.specs.Items.{AnswersItem, RefusesAutomaton, nothing_written}
 
 -- the answer of `trim` for an automaton
 abbrev pub IsTrimmedAnswer : Description → Answer → Type 0
@@ -15,9 +15,9 @@ IsTrimmedAnswer automaton answer = IsTrimText automaton answer.text × (answer.n
 
 -- the answers of `trim --stream`, one after the other
 abbrev pub AreTrimAnswers : List ℕ → List ℕ → Bool → Type 0
-AreTrimAnswers text = IsAnswered (AnswersItem IsTrimmedAnswer no_answer) text
+AreTrimAnswers text = IsAnswered (AnswersItem IsTrimmedAnswer nothing_written) text
 
 -- the refusal of `trim --stream`: that of the text, or else that of the first automaton that is refused
 abbrev pub IsTrimStreamRefusal : List ℕ → Refusal → Type 0
 IsTrimStreamRefusal text =
-    IsAskingRefusal (AnswersItem IsTrimmedAnswer no_answer) (RefusesAutomaton IsTrimRefusal) text
+    IsAskingRefusal (AnswersItem IsTrimmedAnswer nothing_written) (RefusesAutomaton IsTrimRefusal) text

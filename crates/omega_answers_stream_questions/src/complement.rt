@@ -9,7 +9,7 @@ ghost use Rattle.omega_answers_stream.specs.Answer.{AppendsAnswer, not_io};
 ghost use Rattle.omega_answers_stream_questions.specs.Complement.{AreComplementAnswers};
 ghost use Rattle.omega_answers_stream_questions.specs.Complement.{IsComplementStreamRefusal};
 ghost use Rattle.omega_answers_stream_questions.specs.Complement.{IsComplementedAnswer};
-ghost use Rattle.omega_answers_stream_questions.specs.Items.{AnswersItem, RefusesAutomaton, no_answer};
+ghost use Rattle.omega_answers_stream_questions.specs.Items.{AnswersItem, RefusesAutomaton, nothing_written};
 
 use omega_answers_automaton::complement_automaton;
 use omega_answers_stream::{Answers, Automaton, Input, Item, ItemQuestion, ask_stream};
@@ -39,7 +39,7 @@ pub fn complement_stream<R: Input>(alloc: Global, input: &mut R) -> Result<Answe
 struct Complemented;
 
 impl ItemQuestion for Complemented {
-    ghost answers = { λ _. AnswersItem IsComplementedAnswer no_answer };
+    ghost answers = { λ _. AnswersItem IsComplementedAnswer nothing_written };
 
     ghost refuses = { λ _. RefusesAutomaton IsUncomplemented };
 

@@ -5,7 +5,7 @@ ghost use Rattle.omega_text.specs.Cases.{or_io, or_memory};
 ghost use Rattle.omega_io.specs.Failures.{failures_of};
 ghost use Rattle.omega_io.specs.Reading.{ReadsText, ReadsWhole};
 ghost use Rattle.omega_answers_stream.specs.Answer.{AppendsAnswer, not_io};
-ghost use Rattle.omega_answers_stream_questions.specs.Items.{AnswersItem, RefusesAutomaton, no_answer};
+ghost use Rattle.omega_answers_stream_questions.specs.Items.{AnswersItem, RefusesAutomaton, nothing_written};
 ghost use Rattle.omega_answers_stream_questions.specs.Trim.{AreTrimAnswers, IsTrimStreamRefusal};
 ghost use Rattle.omega_answers_stream_questions.specs.Trim.{IsTrimmedAnswer};
 ghost use Rattle.omega_lang_trim.specs.Refusing.{IsTrimRefusal};
@@ -38,7 +38,7 @@ pub fn trim_stream<R: Input>(alloc: Global, input: &mut R) -> Result<Answers, Re
 struct Trimmed;
 
 impl ItemQuestion for Trimmed {
-    ghost answers = { λ _. AnswersItem IsTrimmedAnswer no_answer };
+    ghost answers = { λ _. AnswersItem IsTrimmedAnswer nothing_written };
 
     ghost refuses = { λ _. RefusesAutomaton IsTrimRefusal };
 

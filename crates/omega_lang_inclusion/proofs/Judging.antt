@@ -8,7 +8,6 @@ use Rattle.omega_lang_inclusion.specs.declared.containment.Counterexample.{Count
 use Rattle.omega_lang_lasso_word.specs.declared.symbolic_word.SymbolicWord.{SymbolicWord}
 use Rattle.omega_text.specs.hoa.Forms.{IsQuotable}
 use Rattle.omega_lang_word_laws.specs.NamedWords.{NamedWord}
-use Rattle.omega_lang_lasso_word.specs.LassoWordText.{lasso_word_text}
 use Rattle.omega_lang_lasso_word.specs.Laws.{HasStrings}
 use Rattle.omega_lang_inclusion.specs.Membership.{HasStringNames, IsMembership, IsRejected}
 use Rattle.omega_lang_inclusion.specs.Written.{IsWordAutomaton}
@@ -33,7 +32,7 @@ module _ (word : SymbolicWord) (one a : Description) (means : IsWordAutomaton wo
   strings : HasStringNames word → HasStrings one
   strings names = subst (AllByRecursion IsQuotable) (sym means.propositions) names
 
-  pub counterexample_rejects : (example : Counterexample) → IsContainment one a (NotContained example) → IsMembership word a (Rejected (lasso_word_text example.word))
+  pub counterexample_rejects : (example : Counterexample) → IsContainment one a (NotContained example) → IsMembership word a (Rejected example.word)
   counterexample_rejects example is = record {
     named = is.word;
     rejected = outside_rejected is.word is.outside;

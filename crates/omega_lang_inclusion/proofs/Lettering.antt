@@ -1,5 +1,5 @@
 -- The word that is written by the labels of two automata is that of their product, which is not made.
-use Rattle.std.proofs.Common.{◌≡◌, ℕ, ◌+◌, List, [], ◌∷◌, ◌++◌, length, Contains, Some, codes, map, refl, sym, ap, ap₂, subst, ◌∙◌, arith}
+use Rattle.std.proofs.Common.{◌≡◌, ℕ, ◌+◌, List, ◌++◌, length, Contains, Some, sym, ap, ap₂, subst, ◌∙◌, arith}
 use Rattle.std.proofs.lemmas.List.{length-map}
 use Rattle.std.specs.List.{position_or_len}
 use Rattle.std.specs.Str.{bytes_eq}
@@ -7,9 +7,8 @@ use Rattle.omega_hoa_label.specs.Label.{LabelTree}
 use Rattle.omega_hoa_edges.specs.Conjuncts.{conjuncts, each_once, joined}
 use Rattle.omega_hoa_automaton.specs.Automaton.{BodyEdge, Description, edge_at}
 use Rattle.omega_hoa_edges.specs.Labels.{label_at}
-use Rattle.omega_lang_runs.specs.Lasso.{IsAcceptingLasso, Leads}
+use Rattle.omega_lang_runs.specs.Lasso.{IsAcceptingLasso}
 use Rattle.omega_lang_runs.specs.Words.{index_in}
-use Rattle.omega_lang_lasso_word.specs.Form.{cycle_form, others_form, stem_form}
 use Rattle.omega_lang_lasso_word.specs.Letters.{conjunction_words, letter_at, letter_text, text_of_letter}
 use Rattle.omega_lang_lasso_word.specs.LassoWordText.{lasso_word_text}
 use Rattle.omega_lang_lasso_word.specs.WordText.{word_text}
@@ -25,6 +24,7 @@ use Rattle.omega_lang_word_laws.proofs.meeting.Transitions.{numbered_found}
 use Rattle.omega_lang_inclusion.specs.private.Letters.{joint_conjuncts, joint_word, label_in, moved_label}
 use Rattle.omega_lang_inclusion.proofs.Conjuncts.{joined_conjuncts}
 use Rattle.omega_lang_inclusion.proofs.Standing.{Row, first_is, label_is, row, second_is}
+use Rattle.omega_lang_inclusion.proofs.Texts.{words_alike}
 
 -- the label of an edge of an automaton within a product
 part_label : (a : Description) (names joined : List (List ℕ)) (before : ℕ) → names ≡ joined → (k : ℕ) (edge : BodyEdge) (t : Transition) → edge_at a k ≡ Some edge
@@ -75,46 +75,16 @@ module _ (one other : Description) (graph : PairGraph) (is : IsPairGraph one oth
   abbrev joint_letter : ℕ → List ℕ
   joint_letter number = conjunction_words graph.propositions.items (joint_conjuncts one other graph number)
 
-  letter_alike : (number : ℕ) (edge : BodyEdge) → edge_at a number ≡ Some edge → letter_text a number ≡ joint_letter number
+  letter_alike : (number : ℕ) (edge : BodyEdge) → edge_at a number ≡ Some edge → joint_letter number ≡ letter_text a number
   letter_alike number edge at =
       let r = row one other graph is a of number edge at in
       let index : ℕ = index_in a.defined number in
       let label : LabelTree = joined r.joint.first.transition.label r.joint.second.transition.label in
-      ap (letter_at a number) at
+      sym (ap (letter_at a number) at
       ∙ ap (text_of_letter a.propositions index) (label_is one other graph is a of r.joint edge r.takes)
       ∙ ap (λ (names : List (List ℕ)). conjunction_words names (each_once (conjuncts label))) (of.product.propositions ∙ sym is.propositions)
-      ∙ ap (conjunction_words graph.propositions.items) (sym (conjuncts_alike number edge r))
+      ∙ ap (conjunction_words graph.propositions.items) (sym (conjuncts_alike number edge r)))
 
   -- the word of a lasso
-  stem_alike : (q : ℕ) (numbers : List ℕ) (q' : ℕ) → Leads a q numbers q' → stem_form (letter_text a) numbers ≡ stem_form joint_letter numbers
-  stem_alike q [] q' leads = refl
-  stem_alike q (n ∷ ns) q' leads =
-      ap₂ ◌++◌ (ap (λ (letter : List ℕ). letter ++ codes "; ") (letter_alike n leads.1.edge leads.1.numbered)) (stem_alike leads.0 ns q' leads.2)
-
-  others_alike : (q : ℕ) (numbers : List ℕ) (q' : ℕ) → Leads a q numbers q' → others_form (letter_text a) numbers ≡ others_form joint_letter numbers
-  others_alike q [] q' leads = refl
-  others_alike q (n ∷ ns) q' leads =
-      ap₂ ◌++◌ (ap (λ (letter : List ℕ). codes "; " ++ letter) (letter_alike n leads.1.edge leads.1.numbered)) (others_alike leads.0 ns q' leads.2)
-
-  cycle_alike : (q : ℕ) (numbers : List ℕ) (q' : ℕ) → Leads a q numbers q' → cycle_form (letter_text a) numbers ≡ cycle_form joint_letter numbers
-  cycle_alike q [] q' leads = refl
-  cycle_alike q (n ∷ ns) q' leads = ap₂ ◌++◌ (letter_alike n leads.1.edge leads.1.numbered) (others_alike leads.0 ns q' leads.2)
-
-  -- the text of the letters of edges is that of their numbers
-  stem_written : (numbers : List ℕ) → stem_form (conjunction_words graph.propositions.items) (map (joint_conjuncts one other graph) numbers) ≡ stem_form joint_letter numbers
-  stem_written [] = refl
-  stem_written (n ∷ ns) = ap (λ (rest : List ℕ). (joint_letter n ++ codes "; ") ++ rest) (stem_written ns)
-
-  others_written : (numbers : List ℕ) → others_form (conjunction_words graph.propositions.items) (map (joint_conjuncts one other graph) numbers) ≡ others_form joint_letter numbers
-  others_written [] = refl
-  others_written (n ∷ ns) = ap (λ (rest : List ℕ). (codes "; " ++ joint_letter n) ++ rest) (others_written ns)
-
-  cycle_written : (numbers : List ℕ) → cycle_form (conjunction_words graph.propositions.items) (map (joint_conjuncts one other graph) numbers) ≡ cycle_form joint_letter numbers
-  cycle_written [] = refl
-  cycle_written (n ∷ ns) = ap (λ (rest : List ℕ). joint_letter n ++ rest) (others_written ns)
-
   pub word_alike : (stem cycle : List ℕ) → IsAcceptingLasso a stem cycle → lasso_word_text (joint_word one other graph stem cycle) ≡ word_text a stem cycle
-  word_alike stem cycle lasso =
-      let l = lasso.lasso in
-      ap₂ (λ (before around : List ℕ). before ++ (codes "cycle{" ++ (around ++ codes "}")))
-      (stem_written stem ∙ sym (stem_alike l.start stem l.loop_state l.stem_leads)) (cycle_written cycle ∙ sym (cycle_alike l.loop_state cycle l.loop_state l.cycle_leads))
+  word_alike = words_alike a graph.propositions.items (joint_conjuncts one other graph) letter_alike

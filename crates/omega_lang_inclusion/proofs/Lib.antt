@@ -9,6 +9,7 @@ pub mod Standing
 pub mod Made
 pub mod AcceptedWords
 pub mod Paths
+pub mod Texts
 pub mod Lettering
 pub mod Answering
 pub mod Below

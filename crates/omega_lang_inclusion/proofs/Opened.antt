@@ -18,18 +18,18 @@ use Rattle.omega_lang_lasso_word.specs.declared.symbolic_word.SymbolicWord.{Symb
 use Rattle.omega_lang_product.proofs.Holding.{and_both, both_and, truth_same}
 use Rattle.omega_lang_word_laws.proofs.naming.Named.{own_place}
 use Rattle.omega_lang_inclusion.specs.OneWord.{Fixes, HasOpenLetter, IsOneWordFor, LeavesOpen}
-use Rattle.omega_lang_inclusion.specs.Opening.{first_label, literal_of, number_among}
-use Rattle.omega_lang_inclusion.specs.private.Opened.{CanBeBoth, HasOpenName}
+use Rattle.omega_lang_inclusion.specs.Opening.{literal_of, place_among}
+use Rattle.omega_lang_inclusion.specs.private.Opened.{CanBeBoth, HasOpenName, first_label}
 use Rattle.omega_lang_inclusion.specs.Written.{IsWordAutomaton, letter_count, letters_of}
 use Rattle.omega_lang_inclusion.proofs.Edges.{IsLetterState, letter_of_state, state_of_letter}
 use Rattle.omega_lang_inclusion.proofs.WordLetters.{letter_worth}
 
 -- at the place of a name among others is this name, or else nothing
-own_name : (names : List (List ℕ)) (name : List ℕ) → slice_index_or names (number_among names name) name ≡ name
+own_name : (names : List (List ℕ)) (name : List ℕ) → slice_index_or names (place_among names name) name ≡ name
 own_name names name = go (cases_lt at (length names))
   where
     at : ℕ
-    at = number_among names name
+    at = place_among names name
 
     go : (at < length names) ⊎ (length names ≤ at) → slice_index_or names at name ≡ name
     go (inl below) = sym ((bytes_eq-Decides name (slice_index_or names at name)).0 (passes_at_first (bytes_eq name) names name below))
@@ -49,7 +49,7 @@ module _ (word : SymbolicWord) (one : Description) (means : IsWordAutomaton word
 
   -- what holds by numbers, by names
   abbrev by_names : (ℕ → Bool) → List ℕ → Bool
-  by_names held name = held (number_among names name)
+  by_names held name = held (place_among names name)
 
   module _ (letter : RawLabelTree) (state : State) (listed : Contains one.defined state) (is : IsLetterState letter state) where
     labelled : first_label state.edges ≡ Some is.tree
@@ -85,7 +85,7 @@ module _ (word : SymbolicWord) (one : Description) (means : IsWordAutomaton word
 
     module _ (name : List ℕ) where
       abbrev number : ℕ
-      number = number_among names name
+      number = place_among names name
 
       abbrev Both : Option LabelTree → Type 0
       Both label = CanBeBoth (literal_of number true) (literal_of number false) label

@@ -117,7 +117,7 @@ module _ (word : SymbolicWord) (a : Description) (means : IsWordAutomaton word a
       (edges_there count back 0 letters a.defined means.defined k letter there)
 
   -- each edge is one of a letter
-  some_letter : (k : ℕ) (edge : BodyEdge) → edge_at a k ≡ Some edge → (letter : RawLabelTree) × (slice_get letters k ≡ Some letter) × IsLetterEdge count back k letter edge
+  pub some_letter : (k : ℕ) (edge : BodyEdge) → edge_at a k ≡ Some edge → (letter : RawLabelTree) × (slice_get letters k ≡ Some letter) × IsLetterEdge count back k letter edge
   some_letter k edge numbered =
       let size = edges_counted count back 0 letters a.defined means.defined in
       let below : k < length letters = omega (arith, slice_get_within (flat_map edges_from a.defined) k edge numbered) in

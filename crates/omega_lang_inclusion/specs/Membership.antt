@@ -1,11 +1,13 @@
 -- Whether an automaton accepts each word that a symbolic word admits, and if not, words that show it.
-use Rattle.std.specs.Prelude.{◌⊎◌, ℕ, List}
+use Rattle.std.specs.Prelude.{◌⊎◌}
 use Rattle.std.specs.List.{AllByRecursion}
 use Rattle.omega_hoa_automaton.specs.Automaton.{Description}
 use Rattle.omega_hoa_edges.specs.Determinism.{IsDeterministic}
 use Rattle.omega_lang_lasso_word.specs.Fitting.{Fits}
+use Rattle.omega_lang_lasso_word.specs.LassoWordText.{lasso_word_text}
 use Rattle.omega_lang_lasso_word.specs.Laws.{HasStrings}
 use Rattle.omega_lang_lasso_word.specs.Admitted.{Admits}
+use Rattle.omega_lang_lasso_word.specs.declared.lasso_word.LassoWord.{LassoWord}
 use Rattle.omega_lang_lasso_word.specs.declared.symbolic_word.SymbolicWord.{SymbolicWord}
 use Rattle.omega_text.specs.hoa.Forms.{IsQuotable}
 use Rattle.omega_text.specs.Omniscience.{LimitedPrincipleOfOmniscience}
@@ -35,19 +37,21 @@ pub record IsRejected (word : SymbolicWord) (a : Description) (named : NamedWord
 abbrev pub HasStringNames : SymbolicWord → Type 0
 HasStringNames word = AllByRecursion IsQuotable word.names
 
--- some admitted word is not accepted and fits a text, as does no word but such. Names are strings, as in each text
-pub record IsRejection (word : SymbolicWord) (a : Description) (text : List ℕ) : Type 0 where
+-- some admitted word is not accepted and fits the text of words, as does no word but such. Names are strings, as in
+-- each text
+pub record IsRejection (word : SymbolicWord) (a : Description) (words : LassoWord) : Type 0 where
   pub named : NamedWord
   pub rejected : IsRejected word a named
-  pub fits : HasStringNames word → HasStrings a → Fits text named
-  pub all_rejected : HasStringNames word → HasStrings a → (other : NamedWord) → Fits text other
+  pub fits : HasStringNames word → HasStrings a → Fits (lasso_word_text words) named
+  pub all_rejected :
+      HasStringNames word → HasStrings a → (other : NamedWord) → Fits (lasso_word_text words) other
       → IsRejected word a other
 
--- an answer is right: `Accepted` only if the automaton accepts the admitted words; any other answer is a text of words
--- that show that it does not
+-- an answer is right: `Accepted` only if the automaton accepts the admitted words; any other answer is words that show
+-- that it does not
 abbrev pub IsMembership : SymbolicWord → Description → Membership → Type 0
 IsMembership word a Accepted = AreAccepted word a
-IsMembership word a (Rejected text) = IsRejection word a text
+IsMembership word a (Rejected words) = IsRejection word a words
 
 -- membership is decided of a deterministic automaton, and of any automaton if it sees one word at most
 abbrev pub IsDecided : SymbolicWord → Description → Type 0

@@ -5,13 +5,14 @@ use Rattle.omega_hoa_automaton.specs.Automaton.{Description}
 use Rattle.omega_hoa_edges.specs.Determinism.{AreExclusiveBelow}
 use Rattle.omega_hoa_edges.specs.Refusing.{IsFirstClash, IsFirstUndecided, IsSecondStart}
 use Rattle.omega_lang_inclusion.specs.Refusing.{IsContainmentRefusal}
-use Rattle.omega_lang_lasso_search.specs.Searching.{IsSearchRefusal}
 use Rattle.omega_lang_product.specs.Refusing.{IsGraphRefusal}
+use Rattle.omega_lang_runs.specs.Judging.{HasHardLabel}
 use Rattle.omega_lang_lasso_word.specs.declared.symbolic_word.SymbolicWord.{SymbolicWord}
 use Rattle.omega_text.specs.declared.refusal.Refusal.{Refusal}
 use Rattle.omega_text.specs.declared.refusal.Refusal.TheVariants.{Memory, Task}
 use Rattle.omega_text.specs.declared.refusal.task.TaskFault.{TaskFault}
 use Rattle.omega_text.specs.declared.refusal.task.TaskFault.TheVariants.{NotDeterministic, TooLarge}
+use Rattle.omega_text.specs.declared.refusal.task.TaskFault.TheVariants.{TooManyPropositions}
 use Rattle.omega_lang_inclusion.specs.OneWord.{HasOpenLetter, IsOneWordFor}
 use Rattle.omega_lang_inclusion.specs.Opening.{HasUnjudgedName}
 use Rattle.omega_lang_inclusion.specs.Written.{IsOversized, IsWordAutomaton}
@@ -32,10 +33,11 @@ pub record HasNoFoundChoice (a : Description) : Type 0 where
   pub apart : AreExclusiveBelow a a.states ⊎ ((fault : TaskFault) × IsFirstUndecided a fault)
 
 -- the refusal of the question whether `a` accepts the one word of the automaton `one`: that of the graph of the product
--- of both, else that of the search in `one`
+-- of both, else that it may be left undecided whether a letter can be true
 pub data IsOneWordRefusal (one a : Description) (refusal : Refusal) : Type 0 where
   not_met : IsGraphRefusal one a refusal → IsOneWordRefusal one a refusal
-  not_found : IsSearchRefusal one refusal → IsOneWordRefusal one a refusal
+  undecided_letter : HasHardLabel one → refusal ≡ Task TooManyPropositions
+      → IsOneWordRefusal one a refusal
 
 -- the refusal of membership: that of the automaton of the word, else that of its containment, if it is not for a
 -- choice, nor for a size where a choice is found. If it is, then the refusal of a letter that is not judged, or that

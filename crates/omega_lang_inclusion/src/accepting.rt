@@ -17,12 +17,12 @@ use crate::one_word::membership_of_one;
 use crate::{Containment, decide_containment};
 use omega_hoa_automaton::{Automaton, Refusal};
 use omega_hoa_edges::{check_deterministic_states, check_one_start};
-use omega_lang_lasso_word::{SymbolicWord, lasso_word_text};
-use omega_text::{Seq, TaskFault};
+use omega_lang_lasso_word::SymbolicWord;
+use omega_text::TaskFault;
 use std::alloc::Global;
 
-/// Returns whether `automaton` accepts each word that `word` admits. If not, returns the text of words that `word`
-/// admits and `automaton` does not accept. Propositions that have one name are the same, whatever their numbers are
+/// Returns whether `automaton` accepts each word that `word` admits. If not, returns words that `word` admits and
+/// `automaton` does not accept. Propositions that have one name are the same, whatever their numbers are
 /// (HOA v1, AP).
 ///
 /// `automaton` is to be deterministic, or each letter of `word` is to fix each of its propositions, so that it sees one
@@ -36,7 +36,8 @@ use std::alloc::Global;
 /// - Fails with [TaskFault::TooLarge] or [TaskFault::TooManyPropositions] if a letter is not judged together with a
 ///   proposition of `automaton`, as `can_hold_together` of `omega_hoa_edges` does.
 /// - Fails with [TaskFault::NotDeterministic] for that state if a letter leaves a proposition of `automaton` open.
-/// - Or else fails as `pair_graph` does for the two automata, or as `lasso` does for the automaton of the word.
+/// - Or else fails as `pair_graph` does for the two automata, or with [TaskFault::TooManyPropositions] if it is undecided
+///   whether a letter can be true.
 ///
 /// Takes the time of these calls, and to judge the letters two calls of `can_hold_together` for each letter and each
 /// proposition of `automaton`.
@@ -66,7 +67,7 @@ fn membership(alloc: Global, one: &Automaton, automaton: &Automaton) -> Result<M
         IsWordAutomaton word one.now → IsMembershipRefusal word automaton.now refusal) }
 {
     match decide_containment(alloc, one, automaton) {
-        Ok(answer) => membership_of(alloc, &answer),
+        Ok(answer) => Ok(membership_of(answer)),
         Err(refusal) => membership_refused(alloc, one, automaton, refusal),
     }
 }
@@ -169,17 +170,12 @@ fn choice_in(refusal: &Refusal) -> Option<usize>
 }
 
 /// Returns what containment of the automaton of a symbolic word in another automaton says of the two.
-fn membership_of(alloc: Global, answer: &Containment) -> Result<Membership, Refusal>
-    ensures right { IfOk result (λ membership. (word : SymbolicWord) (one automaton : Description) →
-        IsWordAutomaton word one → IsContainment one automaton answer.now
-        → IsMembership word automaton membership) }
-    ensures memory { IsOkUnless result Refusal.Memory }
+fn membership_of(answer: Containment) -> Membership
+    ensures { (word : SymbolicWord) (one automaton : Description) → IsWordAutomaton word one
+        → IsContainment one automaton answer → IsMembership word automaton result }
 {
     match answer {
-        Containment::Contained => Ok(Membership::Accepted),
-        Containment::NotContained(example) => {
-            let text = lasso_word_text(alloc, &example.word)?;
-            Ok(Membership::Rejected(Seq::from_vec(text)))
-        }
+        Containment::Contained => Membership::Accepted,
+        Containment::NotContained(example) => Membership::Rejected(example.word),
     }
 }

@@ -13,6 +13,7 @@ mod containing;
 mod containment;
 mod equality;
 mod joints;
+mod lasso_words;
 pub mod laws;
 mod letters;
 mod making;

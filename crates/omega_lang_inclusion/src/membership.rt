@@ -1,11 +1,11 @@
-use omega_text::Seq;
+use omega_lang_lasso_word::LassoWord;
 
 /// Whether an automaton accepts each word that a symbolic word admits.
 #[derive(Debug, Drop, PartialEq, Eq)]
 pub enum Membership {
     /// It accepts each of them.
     Accepted,
-    /// It does not accept some of them: the text of such words, as Spot writes words. Its letters are formulas over the
-    /// names of both.
-    Rejected(Seq<u8>),
+    /// It does not accept these. Their letters are over the names of the symbolic word, and may be over the automaton's
+    /// other names too.
+    Rejected(LassoWord),
 }

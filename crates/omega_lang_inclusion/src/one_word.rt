@@ -15,15 +15,15 @@ ghost use Rattle.omega_lang_inclusion.specs.WordRefusing.{HasChoice, IsMembershi
 ghost use Rattle.omega_lang_inclusion.specs.Written.{IsWordAutomaton};
 ghost use Rattle.omega_lang_inclusion.specs.private.Choosing.{AcceptCommon, is_lasso};
 
+use crate::lasso_words::words_along;
 use crate::membership::Membership;
 use crate::open_letters::has_open_name;
 use crate::searching::verdict_on;
 use omega_hoa_automaton::{Automaton, Refusal};
 use omega_lang_lasso_search::lasso;
-use omega_lang_lasso_word::word_of;
 use omega_lang_product::{PairGraph, pair_graph};
 use omega_lang_runs::Verdict;
-use omega_text::{Seq, TaskFault};
+use omega_text::TaskFault;
 use std::alloc::Global;
 
 /// Returns whether `automaton`, which has a choice at `state`, accepts each word that `one` does, the automaton of a
@@ -51,7 +51,8 @@ pub(crate) fn membership_of_one(
 }
 
 /// Returns whether `automaton` accepts each word that `one` does, the automaton of a symbolic word of which it sees one
-/// word at most. Fails as `pair_graph` does for both, or else as `lasso` does for `one`.
+/// word at most. Fails as `pair_graph` does for both, or else with [TaskFault::TooManyPropositions] if it is undecided
+/// whether a letter can be true.
 fn membership_of_word(
     alloc: Global,
     one: &Automaton,
@@ -72,6 +73,7 @@ fn membership_of_word(
 /// Whether some word is accepted by both automata. Fails as `pair_graph` does.
 fn meets(alloc: Global, one: &Automaton, automaton: &Automaton) -> Result<bool, Refusal>
     ensures right { IfOk result (λ found. IsTrue found ↔ AcceptCommon one.now automaton.now) }
+    ensures plain { OnOk result (HaveNoBranch one.now automaton.now) }
     ensures refused { IfErr result (IsOneWordRefusal one.now automaton.now) }
 {
     match pair_graph(alloc, one, automaton) {
@@ -155,6 +157,6 @@ fn rejected_along(
         IsWordAutomaton word one.now → ¬ AcceptCommon one.now a → IsMembership word a answer) }
     ensures memory { IsOkUnless result Refusal.Memory }
 {
-    let words = word_of(alloc, one, stem, cycle)?;
-    Ok(Membership::Rejected(Seq::from_vec(words)))
+    let words = words_along(alloc, one, stem, cycle)?;
+    Ok(Membership::Rejected(words))
 }

@@ -3,11 +3,10 @@
 ghost use Rattle.std.specs.Prelude.{◌≡◌, ◌↔◌, ◌<◌, ◌^◌, length, IfErr, IfOk, IsOkUnless, IsTrue};
 ghost use Rattle.std.specs.Option.{option_copied};
 ghost use Rattle.omega_hoa_label.specs.Postfix.{postfix};
-ghost use Rattle.omega_lang_inclusion.specs.Opening.{HasUnjudgedName};
+ghost use Rattle.omega_lang_inclusion.specs.Opening.{literal_of, place_among};
 ghost use Rattle.omega_lang_inclusion.specs.private.Opened.{CanBeBoth, HasOpenName, HasOpenState};
-ghost use Rattle.omega_lang_inclusion.specs.Opening.{HasUnjudgedState, IsUnjudgedName};
-ghost use Rattle.omega_lang_inclusion.specs.private.Opened.{IsOpenName};
-ghost use Rattle.omega_lang_inclusion.specs.Opening.{IsUnjudgedWith, first_label, literal_of, number_among};
+ghost use Rattle.omega_lang_inclusion.specs.private.Opened.{HasUnjudgedState, IsNameRefusal, IsOpenName};
+ghost use Rattle.omega_lang_inclusion.specs.private.Opened.{IsUnjudgedName, IsUnjudgedWith, first_label};
 ghost use Rattle.std.specs.Prelude.{Some};
 
 use omega_hoa_automaton::{Automaton, State};
@@ -24,7 +23,7 @@ pub(crate) fn has_open_name(
     names: &[ByteString],
 ) -> Result<bool, Refusal>
     ensures right { IfOk result (λ found. IsTrue found ↔ HasOpenName one.now names.now) }
-    ensures refused { IfErr result (HasUnjudgedName one.now names.now) }
+    ensures refused { IfErr result (IsNameRefusal one.now names.now) }
 {
     for name in names {
         if is_open_name(alloc, one, name.as_slice())? {
@@ -40,16 +39,16 @@ fn is_open_name(alloc: Global, one: &Automaton, name: &[u8]) -> Result<bool, Ref
     ensures refused { IfErr result (IsUnjudgedName one.now name.now) }
 {
     one.keeps_limits();
-    let number = number_among(one.propositions(), name);
+    let number = place_among(one.propositions(), name);
     let held = literal(alloc, number, true)?;
     let unheld = literal(alloc, number, false)?;
     has_open_state(alloc, one.defined(), &held, &unheld)
 }
 
 /// Returns the position of `name` in `names`, or their count if it is not there.
-fn number_among(names: &[ByteString], name: &[u8]) -> u32
+fn place_among(names: &[ByteString], name: &[u8]) -> u32
     requires { length names.now < 2 ^ 32 }
-    ensures { result ≡ number_among names.now name.now }
+    ensures { result ≡ place_among names.now name.now }
 {
     for (place, other) in names.iter().enumerate() {
         if name == other.as_slice() {

@@ -8,4 +8,5 @@ pub mod Listed
 pub mod Edges
 pub mod Walks
 pub mod Lassos
+pub mod Tables
 pub mod Entering

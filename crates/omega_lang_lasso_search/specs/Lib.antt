@@ -3,4 +3,6 @@ pub use Rattle.omega_text.specs.Cases
 pub use Rattle.omega_text.specs.Refusal
 pub mod Searching
 pub mod Tabled
+pub mod TableLassos
+pub mod Laws
 pub mod private

@@ -3,11 +3,7 @@ use Rattle.std.specs.Prelude.{◌≡◌, true, false}
 use Rattle.omega_text.specs.Cases.{never, or_memory, or_task}
 use Rattle.omega_text.specs.declared.refusal.Refusal.{Refusal}
 use Rattle.omega_text.specs.declared.refusal.task.TaskFault.{TaskFault}
-use Rattle.omega_text.specs.declared.refusal.task.TaskFault.TheVariants.{BadSolution, Budget, Controllable}
-use Rattle.omega_text.specs.declared.refusal.task.TaskFault.TheVariants.{NotDeterministic, NotParity}
-use Rattle.omega_text.specs.declared.refusal.task.TaskFault.TheVariants.{TooLarge, TooManyPropositions}
-use Rattle.omega_text.specs.declared.refusal.task.TaskFault.TheVariants.{TooWide, UniversalBranch}
-use Rattle.omega_text.specs.declared.refusal.task.TaskFault.TheVariants.{UnknownNode}
+use Rattle.omega_text.specs.declared.refusal.task.TaskFault.TheVariants.{TooManyPropositions, UniversalBranch}
 use Rattle.omega_hoa_automaton.specs.Automaton.{Description}
 use Rattle.omega_hoa_automaton.specs.Branching.{has_universal_branching}
 use Rattle.omega_lang_runs.specs.Judging.{HasHardLabel}
@@ -19,16 +15,9 @@ IsSearchable a = has_universal_branching a ≡ false
 -- the fault applies, and none with a lesser number does; `TooManyPropositions` only if a label may be
 -- given up undecided
 abbrev pub IsSearchFault : Description → TaskFault → Type 0
-IsSearchFault a NotParity = ⊥
 IsSearchFault a UniversalBranch = has_universal_branching a ≡ true
 IsSearchFault a TooManyPropositions = (has_universal_branching a ≡ false) × HasHardLabel a
-IsSearchFault a TooWide = ⊥
-IsSearchFault a Budget = ⊥
-IsSearchFault a BadSolution = ⊥
-IsSearchFault a UnknownNode = ⊥
-IsSearchFault a Controllable = ⊥
-IsSearchFault a TooLarge = ⊥
-IsSearchFault a (NotDeterministic state) = ⊥
+IsSearchFault a fault = ⊥
 
 -- the refusals of the search
 abbrev pub IsSearchRefusal : Description → Refusal → Type 0

@@ -5,7 +5,8 @@ ghost use Rattle.omega_hoa_automaton.specs.Branching.{has_universal_branching};
 ghost use Rattle.omega_graph.specs.Graph.{AreEdges};
 ghost use Rattle.omega_lang_runs.specs.Verdict.{IsVerdict};
 ghost use Rattle.omega_lang_lasso_search.specs.Searching.{IsSearchRefusal, IsSearchable};
-ghost use Rattle.omega_lang_lasso_search.specs.Tabled.{AllAreUsable, AreUsableEdges, IsTabled};
+ghost use Rattle.omega_lang_lasso_search.specs.TableLassos.{IsTableVerdict};
+ghost use Rattle.omega_lang_lasso_search.specs.Tabled.{AreUsableEdges};
 ghost use Rattle.omega_lang_lasso_search.specs.private.Searched.{IsAcceptingCycle, IsGiven};
 ghost use Rattle.omega_lang_lasso_search.specs.private.Searched.{IsGivenOf, IsSearch, IsVerdictOf};
 ghost use Rattle.omega_lang_lasso_search.specs.private.Searched.{Reaches, beginning, edges_leaving};
@@ -47,9 +48,9 @@ pub fn lasso(alloc: Global, automaton: &Automaton) -> Result<Verdict, Refusal>
     Ok(verdict)
 }
 
-/// Returns an accepting lasso of the automaton with these starts, ends and marks of edges and this acceptance formula,
-/// or `Empty` if no lasso accepts. Each start and each edge of it lists one state, and all its edges are usable: of
-/// other automata the verdict says nothing. Marks may be listed in any order, and twice.
+/// Returns an accepting lasso of the graph with these starts, and with edges of these ends and marks, or `Empty` if no
+/// lasso accepts by `formula`. Marks may be listed in any order, and twice. What the verdict says of automata is
+/// `laws::table_verdicts_are_of_automata`.
 ///
 /// Fails for want of memory alone, and so also if there are 2^32 - 1 edges or more. Takes the time of `lasso`, but that
 /// no label is judged.
@@ -61,9 +62,7 @@ pub fn lasso_in_table(
     formula: &Acc,
 ) -> Result<Verdict, Refusal>
     requires { length marks.now ≡ length ends.now }
-    ensures verdict { IfOk result
-        (λ verdict. (a : Description) → IsTabled starts.now ends.now marks.now formula.now a
-        → AllAreUsable a → IsVerdict a verdict) }
+    ensures verdict { IfOk result (IsTableVerdict starts.now ends.now marks.now formula.now) }
     ensures memory { IsOkUnless result Refusal.Memory }
 {
     if ends.len() > u32::MAX as usize {

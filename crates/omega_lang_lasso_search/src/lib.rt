@@ -7,6 +7,7 @@
 mod ends;
 mod finding;
 mod given;
+pub mod laws;
 mod marks;
 mod numbering;
 mod search;

@@ -1,7 +1,7 @@
 -- The words of labels joined by `&`.
 use Rattle.std.proofs.Common.{◌≡◌, ℕ, ◌<◌, List, [], ◌∷◌, ◌++◌, length, fold, codes, refl, sym, ◌∙◌, append_assoc, append-nil, arith}
 use Rattle.omega_hoa_label.specs.Label.{LabelTree, conjunction}
-use Rattle.omega_lang_lasso_word.specs.Infix.{further_words}
+use Rattle.omega_lang_lasso_word.specs.private.Infix.{further_words}
 use Rattle.omega_lang_lasso_word.specs.Letters.{label_words}
 
 -- a conjunction below `&` is its parts one after the other

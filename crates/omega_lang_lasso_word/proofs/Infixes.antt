@@ -5,7 +5,7 @@ use Rattle.omega_hoa_label.specs.Label.{LabelTree, conjunction, constant, disjun
 use Rattle.omega_hoa_label.specs.Postfix.{postfix}
 use Rattle.omega_hoa_label.specs.declared.label.LabelNode.{LabelNode}
 use Rattle.omega_hoa_label.specs.declared.label.LabelNode.TheVariants.{And, Not, Or}
-use Rattle.omega_lang_lasso_word.specs.Infix.{Words, atom_words, tightness_of, whole_words, words_after, words_at, words_with}
+use Rattle.omega_lang_lasso_word.specs.private.Infix.{Words, atom_words, tightness_of, whole_words, words_after, words_at, words_with}
 use Rattle.omega_lang_lasso_word.specs.Letters.{label_words}
 use Rattle.omega_lang_lasso_word.specs.declared.signs.Above.{Above}
 use Rattle.omega_lang_lasso_word.specs.declared.signs.Above.TheVariants as above

@@ -1,10 +1,7 @@
--- Words of lassos: what public contracts cite.
--- Lassos in the form of words: what public contracts cite.
--- The run of a lasso as text: what public contracts cite.
--- Symbolic words: what public contracts cite.
+-- Words and runs of lassos, their text, and symbolic words: what public contracts cite, and in `private` what private
+-- contracts alone cite.
 pub mod Names
 pub mod Letters
-pub mod Infix
 pub mod WordText
 pub mod LassoWordText
 pub mod Formulas
@@ -13,5 +10,6 @@ pub mod Laws
 pub mod Form
 pub mod RunText
 pub mod Admitted
+pub mod private
 pub use Rattle.omega_text.specs.Cases
 pub use Rattle.omega_text.specs.Refusal

@@ -3,8 +3,8 @@
 ghost use Rattle.std.specs.Prelude.{◌≡◌, ◌<◌, ◌++◌, [], List, ℕ, fold, get_or, length, IsOkUnless, OnOk};
 ghost use Rattle.omega_hoa_label.specs.Label.{conjunction};
 ghost use Rattle.omega_hoa_edges.specs.Conjuncts.{conjuncts, each_once};
-ghost use Rattle.omega_lang_lasso_word.specs.Infix.{further_words, sign_words, signs_words};
-ghost use Rattle.omega_lang_lasso_word.specs.Infix.{tightness_of, whole_words, words_after};
+ghost use Rattle.omega_lang_lasso_word.specs.private.Infix.{further_words, sign_words, signs_words};
+ghost use Rattle.omega_lang_lasso_word.specs.private.Infix.{tightness_of, whole_words, words_after};
 ghost use Rattle.omega_lang_lasso_word.specs.Letters.{conjunction_words, label_words};
 ghost use Rattle.omega_lang_lasso_word.specs.Letters.{literal_text, valuation_text};
 ghost use Rattle.omega_lang_lasso_word.specs.Names.{name_text};

@@ -1,7 +1,7 @@
 ghost use Rattle.std.specs.Prelude.{◌≡◌, ◌∷◌, ◌++◌, [], List, ℕ, IfNone, IfOk, IsOkUnless, MatchOption, OnOk};
-ghost use Rattle.omega_lang_lasso_word.specs.Infix.{Words, joined_words, sign_words, signs_words};
-ghost use Rattle.omega_lang_lasso_word.specs.Infix.{tightness_of, wanting, whole_words, words_at};
-ghost use Rattle.omega_lang_lasso_word.specs.Infix.{words_before, words_with};
+ghost use Rattle.omega_lang_lasso_word.specs.private.Infix.{Words, joined_words, sign_words, signs_words};
+ghost use Rattle.omega_lang_lasso_word.specs.private.Infix.{tightness_of, wanting, whole_words, words_at};
+ghost use Rattle.omega_lang_lasso_word.specs.private.Infix.{words_before, words_with};
 ghost use Rattle.omega_lang_lasso_word.specs.declared.signs.Waiting.TheVariants.{Part};
 
 use omega_hoa_label::LabelNode;

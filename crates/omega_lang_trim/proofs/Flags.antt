@@ -10,7 +10,8 @@ use Rattle.std.proofs.lemmas.Map.Views.{Contains-from_any}
 use Rattle.std.proofs.lemmas.Map.Keys.{IsStrictlyIncreasing-from_distinct}
 use Rattle.indexmap.specs.IndexSet.{insert_key}
 use Rattle.omega_hoa_automaton.specs.Automaton.{Description}
-use Rattle.omega_lang_trim.specs.private.Placed.{HaveBoth, defined_numbers, flag_at}
+use Rattle.omega_hoa_edges.specs.AutomatonLabels.{defined_numbers}
+use Rattle.omega_lang_trim.specs.private.Placed.{HaveBoth, flag_at}
 
 -- a number is in a list, and has both flags at its place among others
 pub record HasBothIn (places : List ℕ) (reached live : List Bool) (numbers : List ℕ) (state : ℕ) : Type 0 where

@@ -17,7 +17,8 @@ use Rattle.omega_lang_runs.specs.Lasso.{IsStart, IsStep, Leads}
 use Rattle.omega_lang_runs.proofs.Flat.{IsListed, listed_flat}
 use Rattle.omega_lang_runs.proofs.SingleTargets.{enters_one, none_passes}
 use Rattle.omega_lang_lasso_search.specs.Tabled.{AreUsableEdges, first_of}
-use Rattle.omega_lang_trim.specs.private.Placed.{defined_numbers, place_of, placed_in, shape_of, sources_of}
+use Rattle.omega_hoa_edges.specs.AutomatonLabels.{defined_numbers}
+use Rattle.omega_lang_trim.specs.private.Placed.{place_of, placed_in, shape_of, sources_of}
 use Rattle.omega_lang_trim.proofs.Among.{IsImage, contains_from_map, contains_map, place_bound, place_one}
 
 -- a start lists one state

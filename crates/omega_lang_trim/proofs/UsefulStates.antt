@@ -12,7 +12,8 @@ use Rattle.omega_lang_runs.specs.Lasso.{Leads, marks_at}
 use Rattle.omega_lang_lasso_search.specs.Tabled.{AreUsableEdges}
 use Rattle.omega_lang_lasso_search.proofs.Walks.{same_marks}
 use Rattle.omega_lang_trim.specs.Useful.{AreUsefulStates, IsReached, StartsLasso}
-use Rattle.omega_lang_trim.specs.private.Placed.{HasBoth, HaveBoth, LeadsToLoop, LeadsToOne, LoopsAt, TellLive, defined_numbers, flag_at, graph_of, place_of, reversed, rows_of, shape_of, sources_of}
+use Rattle.omega_hoa_edges.specs.AutomatonLabels.{defined_numbers}
+use Rattle.omega_lang_trim.specs.private.Placed.{HasBoth, HaveBoth, LeadsToLoop, LeadsToOne, LoopsAt, TellLive, flag_at, graph_of, place_of, reversed, rows_of, shape_of, sources_of}
 use Rattle.omega_lang_trim.proofs.Among.{place_one}
 use Rattle.omega_lang_trim.proofs.Traced.{LeadsOn, StartAt, begin_defined, source_of, start_of, walk_from, walk_to}
 use Rattle.omega_lang_trim.proofs.Turned.{reversed_are, turned_back, walk_back}

@@ -6,11 +6,8 @@ use Rattle.omega_text.specs.Cases.{never, or_memory, or_task}
 use Rattle.omega_text.specs.declared.refusal.Refusal.{Refusal}
 use Rattle.omega_text.specs.declared.refusal.automaton.AutomatonFault.{AutomatonFault}
 use Rattle.omega_text.specs.declared.refusal.task.TaskFault.{TaskFault}
-use Rattle.omega_text.specs.declared.refusal.task.TaskFault.TheVariants.{BadSolution, Budget, Controllable}
-use Rattle.omega_text.specs.declared.refusal.task.TaskFault.TheVariants.{NotDeterministic, NotParity}
 use Rattle.omega_text.specs.declared.refusal.task.TaskFault.TheVariants.{TooLarge, TooManyPropositions}
-use Rattle.omega_text.specs.declared.refusal.task.TaskFault.TheVariants.{TooWide, UniversalBranch}
-use Rattle.omega_text.specs.declared.refusal.task.TaskFault.TheVariants.{UnknownNode}
+use Rattle.omega_text.specs.declared.refusal.task.TaskFault.TheVariants.{UniversalBranch}
 use Rattle.omega_hoa_expression.specs.Limits.{most_depth}
 use Rattle.omega_hoa_acceptance.specs.Raw.{raw_acc_depth}
 use Rattle.omega_hoa_acceptance.specs.Writing.{acc_written}
@@ -48,16 +45,10 @@ IsTooLarge a = (trim : Description) × IsTrimmed a trim × PassesLimit trim
 
 -- a fault of trimming
 abbrev pub IsTrimFault : Description → TaskFault → Type 0
-IsTrimFault a NotParity = ⊥
 IsTrimFault a UniversalBranch = has_universal_branching a ≡ true
 IsTrimFault a TooManyPropositions = IsSearchable a × HasHardLabel a
-IsTrimFault a TooWide = ⊥
-IsTrimFault a Budget = ⊥
-IsTrimFault a BadSolution = ⊥
-IsTrimFault a UnknownNode = ⊥
-IsTrimFault a Controllable = ⊥
 IsTrimFault a TooLarge = IsSearchable a × IsTooLarge a
-IsTrimFault a (NotDeterministic state) = ⊥
+IsTrimFault a fault = ⊥
 
 -- the refusal of trimming
 abbrev pub IsTrimRefusal : Description → Refusal → Type 0

@@ -3,7 +3,8 @@
 
 ghost use Rattle.std.specs.Prelude.{◌≡◌, ◌+◌, ◌<◌, ◌++◌, length, map, All, IfOk, OnOk, IsOkUnless};
 ghost use Rattle.omega_hoa_automaton.specs.Automaton.{edges_from};
-ghost use Rattle.omega_lang_trim.specs.private.Placed.{IsFew, defined_numbers, placed_in, reversed, shape_of};
+ghost use Rattle.omega_hoa_edges.specs.AutomatonLabels.{defined_numbers};
+ghost use Rattle.omega_lang_trim.specs.private.Placed.{IsFew, placed_in, reversed, shape_of};
 ghost use Rattle.omega_lang_trim.specs.private.Placed.{sources_of as sources_of_automaton};
 
 use crate::places::place_in;

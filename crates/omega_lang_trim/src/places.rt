@@ -2,7 +2,8 @@
 
 ghost use Rattle.std.specs.Prelude.{◌≡◌, ◌++◌, ◌∷◌, [], false, nat_eq, IfOk, OnOk, IsOkUnless};
 ghost use Rattle.std.specs.List.{list_any, position_or_len};
-ghost use Rattle.omega_lang_trim.specs.private.Placed.{IsFew, defined_numbers};
+ghost use Rattle.omega_hoa_edges.specs.AutomatonLabels.{defined_numbers};
+ghost use Rattle.omega_lang_trim.specs.private.Placed.{IsFew};
 
 use indexmap::IndexSet;
 use omega_hoa_automaton::Automaton;

@@ -9,7 +9,8 @@ ghost use Rattle.omega_graph.specs.Reaching.{TellReached};
 ghost use Rattle.omega_lang_runs.specs.Judging.{GivesUpOn, HasHardLabel};
 ghost use Rattle.omega_lang_lasso_search.specs.Tabled.{AreUsableEdges};
 ghost use Rattle.omega_lang_trim.specs.Useful.{AreUsefulStates};
-ghost use Rattle.omega_lang_trim.specs.private.Placed.{HaveBoth, IsFew, defined_numbers};
+ghost use Rattle.omega_hoa_edges.specs.AutomatonLabels.{defined_numbers};
+ghost use Rattle.omega_lang_trim.specs.private.Placed.{HaveBoth, IsFew};
 ghost use Rattle.omega_lang_trim.specs.private.Placed.{flag_at, shape_of, sources_of};
 
 use crate::graph::{graph_of, sources_of};

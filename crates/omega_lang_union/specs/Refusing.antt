@@ -5,11 +5,7 @@ use Rattle.omega_text.specs.Cases.{never, or_memory, or_task}
 use Rattle.omega_text.specs.Limits.{most_number}
 use Rattle.omega_text.specs.declared.refusal.Refusal.{Refusal}
 use Rattle.omega_text.specs.declared.refusal.task.TaskFault.{TaskFault}
-use Rattle.omega_text.specs.declared.refusal.task.TaskFault.TheVariants.{BadSolution, Budget, Controllable}
-use Rattle.omega_text.specs.declared.refusal.task.TaskFault.TheVariants.{NotDeterministic, NotParity}
-use Rattle.omega_text.specs.declared.refusal.task.TaskFault.TheVariants.{TooLarge, TooManyPropositions}
-use Rattle.omega_text.specs.declared.refusal.task.TaskFault.TheVariants.{TooWide, UniversalBranch}
-use Rattle.omega_text.specs.declared.refusal.task.TaskFault.TheVariants.{UnknownNode}
+use Rattle.omega_text.specs.declared.refusal.task.TaskFault.TheVariants.{TooLarge, UniversalBranch}
 use Rattle.omega_hoa_automaton.specs.Automaton.{Description, edge_count}
 use Rattle.omega_hoa_automaton.specs.Branching.{has_universal_branching}
 use Rattle.omega_hoa_automaton.specs.Limits.{most_propositions}
@@ -33,17 +29,10 @@ IsUnionTooLarge one other = (union : Description) × IsUnion one other union × 
 
 -- `UniversalBranch` if a start or an edge of one of the two lists several states, otherwise `TooLarge`
 abbrev pub IsUnionFault : Description → Description → TaskFault → Type 0
-IsUnionFault one other NotParity = ⊥
 IsUnionFault one other UniversalBranch =
     (has_universal_branching one || has_universal_branching other) ≡ true
-IsUnionFault one other TooManyPropositions = ⊥
-IsUnionFault one other TooWide = ⊥
-IsUnionFault one other Budget = ⊥
-IsUnionFault one other BadSolution = ⊥
-IsUnionFault one other UnknownNode = ⊥
-IsUnionFault one other Controllable = ⊥
 IsUnionFault one other TooLarge = HaveNoBranch one other × IsUnionTooLarge one other
-IsUnionFault one other (NotDeterministic state) = ⊥
+IsUnionFault one other fault = ⊥
 
 -- the refusal of a union
 abbrev pub IsUnionRefusal : Description → Description → Refusal → Type 0

@@ -1,4 +1,6 @@
 -- What the tokens of a word are read as: tokens of label expressions of the Hanoi format, and what stands between them.
+-- The reader of labels knows the kinds of that format alone. So `;`, `cycle` and what no word has are read as three of
+-- them that no label has.
 use Rattle.std.specs.Prelude.{◌≡◌, ℕ, ◌==◌, Bool, if◌then◌else◌, List}
 use Rattle.std.specs.Prelude.{[], Option, None, Some, codes, slice_get}
 use Rattle.std.specs.List.{filter_map}

@@ -1,5 +1,5 @@
 -- A refusal of membership for a choice is one where a letter leaves something open.
-use Rattle.std.proofs.Common.{◌≡◌, inl, inr, ℕ, List, Option, None, Some, refl, subst}
+use Rattle.std.proofs.Common.{◌≡◌, inl, inr, ℕ, List, refl, subst}
 use Rattle.omega_text.specs.declared.refusal.Refusal.{Refusal}
 use Rattle.omega_text.specs.declared.refusal.Refusal.TheVariants.{Memory, Task}
 use Rattle.omega_text.specs.declared.refusal.task.TaskFault.TheVariants.{NotDeterministic, TooLarge, TooManyPropositions}
@@ -8,8 +8,8 @@ use Rattle.omega_hoa_edges.specs.Fitting.{IsLarge, IsUnjudged}
 use Rattle.omega_hoa_label.specs.Label.{LabelTree}
 use Rattle.omega_lang_lasso_word.specs.declared.symbolic_word.SymbolicWord.{SymbolicWord}
 use Rattle.omega_lang_inclusion.specs.OneWord.{HasOpenLetter}
-use Rattle.omega_lang_inclusion.specs.Opening.{HasUnjudgedName, IsUnjudgedWith}
-use Rattle.omega_lang_inclusion.specs.WordRefusing.{HasChoice, IsMembershipRefusal, IsOneWordRefusal, has_open_letter, no_memory, not_contained, not_found, not_judged, not_met, not_one, oversized}
+use Rattle.omega_lang_inclusion.specs.Opening.{HasUnjudgedName}
+use Rattle.omega_lang_inclusion.specs.WordRefusing.{HasChoice, IsMembershipRefusal, IsOneWordRefusal, has_open_letter, no_memory, not_contained, not_judged, not_met, not_one, oversized, undecided_letter}
 
 -- the refusal for a choice in a state
 abbrev choice_at : ℕ → Refusal
@@ -24,19 +24,13 @@ no_label : (label : LabelTree) (state : ℕ) → IsUnjudged label (choice_at sta
 no_label label state (inl is) = let no : NotDeterministic state ≡ TooLarge = is.0 in cc
 no_label label state (inr is) = let no : NotDeterministic state ≡ TooManyPropositions = is.0 in cc
 
-no_labels : (held unheld : LabelTree) (label : Option LabelTree) (state : ℕ) → IsUnjudgedWith held unheld label (choice_at state) → ⊥
-no_labels held unheld None state is = is
-no_labels held unheld (Some label) state (inl is) = no_label _ state is
-no_labels held unheld (Some label) state (inr is) = no_label _ state is
-
 no_name : (one : Description) (names : List (List ℕ)) (state : ℕ) → HasUnjudgedName one names (choice_at state) → ⊥
-no_name one names state (name, within, inl is) = let no : choice_at state ≡ Memory = is in cc
-no_name one names state (name, within, inr (its, among, is)) = no_labels _ _ _ state is
+no_name one names state is = no_label _ state is.unjudged
 
 -- nor one for the one word
 no_word : (one a : Description) (state : ℕ) → IsOneWordRefusal one a (choice_at state) → ⊥
 no_word one a state (not_met is) = is
-no_word one a state (not_found is) = is
+no_word one a state (undecided_letter hard e) = cc
 
 same_state : (state other : ℕ) → choice_at state ≡ choice_at other → other ≡ state
 same_state state other e = cc

@@ -5,6 +5,7 @@ use Rattle.std.specs.List.{position_or_len}
 use Rattle.std.specs.List.Sorted.{IsStrictlyIncreasing}
 use Rattle.omega_hoa_acceptance.specs.Acceptance.{AccTree, accepts}
 use Rattle.omega_hoa_automaton.specs.Automaton.{BodyEdge, Description, edges_of}
+use Rattle.omega_hoa_edges.specs.AutomatonLabels.{defined_numbers}
 use Rattle.omega_graph.specs.Graph.{AreStates, Shape, edge_of, listed}
 use Rattle.omega_graph.specs.Reaching.{TellReached}
 use Rattle.omega_graph.specs.declared.edge.Edge.{Edge}
@@ -12,10 +13,6 @@ use Rattle.omega_graph.specs.Walks.{EdgeSet, HasAccepting, IsEdgeWalk, MarkedGra
 use Rattle.omega_graph_accepting_walk.specs.Rows.{graph_with}
 use Rattle.omega_lang_runs.specs.Lasso.{marks_of}
 use Rattle.omega_lang_lasso_search.specs.Tabled.{first_of}
-
--- the numbers of the states that the body defines, in the order written
-abbrev pub defined_numbers : Description → List ℕ
-defined_numbers a = map (λ state. state.number) a.defined
 
 -- there are so few numbers that their count, and one more, is a number of the graph
 abbrev pub IsFew : List ℕ → Type 0

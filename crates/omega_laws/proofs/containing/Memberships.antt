@@ -6,6 +6,7 @@ use Rattle.omega_hoa_round_trips.specs.Laws.{ReadAutomataAreWritable}
 use Rattle.omega_io.specs.declared.exit.Exit.{Exit}
 use Rattle.omega_lang_lasso_word.specs.Admitted.{Admits}
 use Rattle.omega_lang_lasso_word.specs.Fitting.{Fits}
+use Rattle.omega_lang_lasso_word.specs.LassoWordText.{lasso_word_text}
 use Rattle.omega_lang_lasso_word.specs.Laws.{HasStrings}
 use Rattle.omega_lang_lasso_word.specs.declared.symbolic_word.SymbolicWord.{SymbolicWord}
 use Rattle.omega_lang_word_laws.specs.NamedWords.{NamedWord}
@@ -15,7 +16,8 @@ use Rattle.omega_lang_inclusion.specs.OneWord.{IsOneWordFor}
 use Rattle.omega_lang_inclusion.specs.declared.membership.Membership.{Membership}
 use Rattle.omega_lang_inclusion.specs.declared.membership.Membership.TheVariants.{Accepted, Rejected}
 use Rattle.omega_io.specs.Answer.{IsReply, explained}
-use Rattle.omega_answers_inclusion.specs.Accepts.{membership_answer, word_line}
+use Rattle.omega_answers_inclusion.specs.Accepts.{membership_answer}
+use Rattle.omega_answers_inclusion.specs.Example.{word_line}
 use Rattle.omega_laws.specs.InclusionTexts.{AcceptedTextsAreAccepted, SaysAccepted}
 use Rattle.omega_laws.proofs.containing.Parted.{seen_periodic}
 use Rattle.omega_laws.proofs.containing.Texts.{of_automaton, of_text}
@@ -55,7 +57,7 @@ accepted_said law writable fitting names words_one word text explain exit output
         (record {
           symbolic = symbolic;
           read = answer.file_read;
-          words = words;
+          words = lasso_word_text words;
           fitting = right.named;
           fits = right.fits own strings;
           rejected = λ named fits. (let rejected = right.all_rejected own strings named fits in

@@ -2,18 +2,18 @@
 use Rattle.std.proofs.Common.{ℕ, List, inr, refl, sym, subst, ◌∙◌, true≢false}
 use Rattle.std.proofs.lemmas.Result.{IfErr-weaker, IfOk-weaker}
 use Rattle.omega_hoa_expression.proofs.PassingLemmas.{error_then}
-use Rattle.omega_lang_inclusion.specs.Opening.{HasUnjudgedName}
-use Rattle.omega_lang_inclusion.specs.private.Opened.{HasOpenName}
-use Rattle.omega_lang_inclusion.specs.WordRefusing.{has_open_letter, not_judged, not_one}
+use Rattle.omega_lang_inclusion.specs.private.Opened.{HasOpenName, IsNameRefusal}
+use Rattle.omega_lang_inclusion.specs.WordRefusing.{has_open_letter, not_one}
 use Rattle.omega_lang_inclusion.proofs.Opened.{one_word, open_letter}
+use Rattle.omega_lang_inclusion.proofs.Refused.{name_refused}
 use Rattle.omega_lang_inclusion.proofs.one_word.membership_of_one.Goals as goal
 
 pub returns-in_err-has_open_name-clause-refused : goal.returns-in_err-has_open_name-clause-refused
 returns-in_err-has_open_name-clause-refused c =
     error_then c.from_residual.result _ _ c.from_residual.ensures.1
-    (λ e is word means. not_judged c.args.one.now c.args.state means c.requires
-    (subst (HasUnjudgedName c.args.one.now c.args.automaton.now.propositions) (sym is)
-    (subst (λ (names : List (List ℕ)). HasUnjudgedName c.args.one.now names c.in_err-has_open_name.field-0.0) c.propositions.ensures c.in_err-has_open_name.ensures.refused)))
+    (λ e is word means. name_refused word c.args.one.now c.args.automaton.now c.args.state e means c.requires
+    (subst (IsNameRefusal c.args.one.now c.args.automaton.now.propositions) (sym is)
+    (subst (λ (names : List (List ℕ)). IsNameRefusal c.args.one.now names c.in_err-has_open_name.field-0.0) c.propositions.ensures c.in_err-has_open_name.ensures.refused)))
 
 pub returns-then-branch-clause-refused : goal.returns-then-branch-clause-refused
 returns-then-branch-clause-refused c = λ word means.

@@ -1,7 +1,7 @@
 -- both accept a word, and so all that are admitted; or they accept none
 use Rattle.std.proofs.Common.{sym, ◌∙◌, true≢false}
 use Rattle.std.proofs.lemmas.Result.{IfErr-weaker, IfOk-weaker}
-use Rattle.omega_lang_inclusion.specs.WordRefusing.{not_found}
+use Rattle.omega_lang_inclusion.proofs.Refused.{search_refused}
 use Rattle.omega_lang_inclusion.proofs.Together.{all_accepted, each_accepted}
 use Rattle.omega_lang_inclusion.proofs.one_word.membership_of_word.Goals as goal
 
@@ -18,4 +18,5 @@ returns-else-branch-clause-right c =
     c.membership_of_rejected.ensures.right
 
 pub returns-else-branch-clause-refused : goal.returns-else-branch-clause-refused
-returns-else-branch-clause-refused c = IfErr-weaker c.membership_of_rejected.result _ _ (λ refusal is. not_found is) c.membership_of_rejected.ensures.refused
+returns-else-branch-clause-refused c =
+    IfErr-weaker c.membership_of_rejected.result _ _ (search_refused c.args.one.now c.args.automaton.now c.in_ok-meets.ensures.plain) c.membership_of_rejected.ensures.refused

@@ -2,8 +2,7 @@
 use Rattle.std.proofs.Common.{◌≡◌, ℕ, List, get_or, refl, sym, subst, ◌∙◌, arith, true≢false}
 use Rattle.std.proofs.lemmas.Bool.{false≢true}
 use Rattle.std.proofs.lemmas.Result.{err_from_is_err_and}
-use Rattle.omega_lang_inclusion.specs.Opening.{IsUnjudgedName}
-use Rattle.omega_lang_inclusion.specs.private.Opened.{IsOpenName}
+use Rattle.omega_lang_inclusion.specs.private.Opened.{IsOpenName, IsUnjudgedName}
 use Rattle.omega_lang_inclusion.proofs.Below.{none_at_all, none_more}
 use Rattle.omega_lang_inclusion.proofs.open_letters.has_open_name.Goals as goal
 

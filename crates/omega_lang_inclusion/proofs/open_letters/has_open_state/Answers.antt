@@ -3,8 +3,7 @@ use Rattle.std.proofs.Common.{◌≡◌, get_or, refl, sym, ◌∙◌, arith, tr
 use Rattle.std.proofs.lemmas.Bool.{false≢true}
 use Rattle.std.proofs.lemmas.Result.{err_from_is_err_and}
 use Rattle.omega_hoa_automaton.specs.declared.state.State.{State}
-use Rattle.omega_lang_inclusion.specs.Opening.{first_label}
-use Rattle.omega_lang_inclusion.specs.private.Opened.{CanBeBoth}
+use Rattle.omega_lang_inclusion.specs.private.Opened.{CanBeBoth, first_label}
 use Rattle.omega_lang_inclusion.proofs.Below.{none_at_all, none_more}
 use Rattle.omega_lang_inclusion.proofs.open_letters.has_open_state.Goals as goal
 

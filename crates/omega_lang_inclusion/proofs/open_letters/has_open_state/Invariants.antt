@@ -1,7 +1,6 @@
 -- no state so far is open
 use Rattle.omega_hoa_automaton.specs.declared.state.State.{State}
-use Rattle.omega_lang_inclusion.specs.Opening.{first_label}
-use Rattle.omega_lang_inclusion.specs.private.Opened.{CanBeBoth}
+use Rattle.omega_lang_inclusion.specs.private.Opened.{CanBeBoth, first_label}
 use Rattle.omega_lang_inclusion.proofs.Below.{NoneBelow}
 use Rattle.omega_lang_inclusion.proofs.open_letters.has_open_state.Given as goal
 

@@ -2,8 +2,7 @@
 use Rattle.std.proofs.Common.{◌≡◌, ◌<◌, ◌↔◌, List, [], ◌∷◌, length, slice_index_or, IfErr, IfOk, IsTrue, Option, ap, subst, ◌∙◌, arith}
 use Rattle.omega_hoa_label.specs.Label.{LabelTree}
 use Rattle.omega_hoa_automaton.specs.declared.edge.Edge.{Edge}
-use Rattle.omega_lang_inclusion.specs.Opening.{IsUnjudgedWith, first_label}
-use Rattle.omega_lang_inclusion.specs.private.Opened.{CanBeBoth}
+use Rattle.omega_lang_inclusion.specs.private.Opened.{CanBeBoth, IsUnjudgedWith, first_label}
 use Rattle.omega_lang_inclusion.proofs.open_letters.is_open_state.Goals as goal
 
 none_open : (held unheld : LabelTree) (edges : List Edge) → length edges ≡ 0 → CanBeBoth held unheld (first_label edges) → ⊥

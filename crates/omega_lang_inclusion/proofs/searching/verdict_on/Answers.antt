@@ -5,6 +5,7 @@ use Rattle.std.proofs.lemmas.Result.{IfOk-weaker}
 use Rattle.omega_graph.specs.Graph.{edge_of}
 use Rattle.omega_graph.specs.declared.edge.Edge.{Edge}
 use Rattle.omega_lang_lasso_search.specs.Tabled.{IsTabled}
+use Rattle.omega_lang_lasso_search.proofs.Tables.{on_automaton}
 use Rattle.omega_lang_product.specs.JointEdges.{Joint, marks_of_both}
 use Rattle.omega_lang_product.specs.PairGraph.{joints_of}
 use Rattle.omega_lang_inclusion.proofs.searching.verdict_on.Goals as goal
@@ -24,5 +25,5 @@ returns-clause-verdict c =
     let tabled = subst (λ (starts : List ℕ). IsTabled starts c.as_slice-2.result.now c.as_slice-3.result.now graph.acceptance a) (sym c.as_slice.ensures.value)
     (subst (λ (ends : List Edge). IsTabled graph.starts.items ends c.as_slice-3.result.now graph.acceptance a) (sym c.as_slice-2.ensures.value)
     (subst (λ (marks : List (List ℕ)). IsTabled graph.starts.items graph.edges.ends.items marks graph.acceptance a) (sym c.as_slice-3.ensures.value) has.tabled)) in
-    right a tabled has.usable))
+    on_automaton c.as_slice.result.now c.as_slice-2.result.now c.as_slice-3.result.now graph.acceptance a tabled has.usable verdict right))
     c.lasso_in_table.ensures.verdict

@@ -1,6 +1,6 @@
 -- a node makes its words of those before it
 use Rattle.std.proofs.Common.{[], ap, ◌∙◌}
-use Rattle.omega_lang_lasso_word.specs.Infix.{whole_words, words_after}
+use Rattle.omega_lang_lasso_word.specs.private.Infix.{whole_words, words_after}
 use Rattle.omega_lang_lasso_word.proofs.Infixes.{words-last}
 use Rattle.omega_lang_lasso_word.proofs.letters.put_all.Goals as goal
 

@@ -1,6 +1,6 @@
 -- the nodes that are left make the front of the words
 use Rattle.std.proofs.Common.{◌≡◌, ℕ, [], List, length}
-use Rattle.omega_lang_lasso_word.specs.Infix.{whole_words, words_after}
+use Rattle.omega_lang_lasso_word.specs.private.Infix.{whole_words, words_after}
 use Rattle.omega_lang_lasso_word.proofs.letters.put_all.Given as goal
 
 abbrev pub invariant-loop-node : goal.invariant-loop-node

@@ -1,7 +1,7 @@
 -- the first label and the others are the conjunction
 use Rattle.std.proofs.Common.{List, ℕ, ◌++◌, ap, sym, ◌∙◌, append_assoc}
 use Rattle.std.proofs.lemmas.Result.{on_ok_weaker}
-use Rattle.omega_lang_lasso_word.specs.Infix.{further_words}
+use Rattle.omega_lang_lasso_word.specs.private.Infix.{further_words}
 use Rattle.omega_lang_lasso_word.specs.Letters.{label_words}
 use Rattle.omega_lang_lasso_word.proofs.Conjunctions.{several_words}
 use Rattle.omega_lang_lasso_word.proofs.letters.write_several.Goals as goal

@@ -1,6 +1,6 @@
 -- what is written and the signs that are left are the text
 use Rattle.std.proofs.Common.{◌≡◌, ◌++◌, length}
-use Rattle.omega_lang_lasso_word.specs.Infix.{signs_words}
+use Rattle.omega_lang_lasso_word.specs.private.Infix.{signs_words}
 use Rattle.omega_lang_lasso_word.proofs.letters.write_signs.Given as goal
 
 abbrev pub invariant-loop-sign : goal.invariant-loop-sign

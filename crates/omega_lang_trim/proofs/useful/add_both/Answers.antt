@@ -2,7 +2,8 @@
 use Rattle.std.proofs.Common.{◌≡◌, ◌+◌, ◌<◌, ◌&&◌, ◌++◌, ℕ, Bool, List, [], ◌∷◌, get_or, length, map, take, refl, ap, subst, ◌∙◌, arith}
 use Rattle.std.proofs.lemmas.List.{length-map, take_all}
 use Rattle.omega_hoa_automaton.specs.declared.state.State.{State}
-use Rattle.omega_lang_trim.specs.private.Placed.{defined_numbers, flag_at}
+use Rattle.omega_hoa_edges.specs.AutomatonLabels.{defined_numbers}
+use Rattle.omega_lang_trim.specs.private.Placed.{flag_at}
 use Rattle.omega_lang_trim.proofs.Among.{mapped_more, place_bound}
 use Rattle.omega_lang_trim.proofs.Flags.{Have, have_both, have_next, no_both}
 use Rattle.omega_lang_trim.proofs.useful.add_both.Goals as goal

@@ -1,6 +1,6 @@
 -- the words are the same, whatever the parts are
 use Rattle.std.proofs.Common.{◌≡◌, ◌++◌, ℕ, List, length}
-use Rattle.omega_lang_lasso_word.specs.Infix.{Words, signs_words, words_before}
+use Rattle.omega_lang_lasso_word.specs.private.Infix.{Words, signs_words, words_before}
 use Rattle.omega_lang_lasso_word.proofs.signs.Infix.turn.Given as goal
 
 abbrev pub invariant-loop-waiting : goal.invariant-loop-waiting

@@ -3,7 +3,7 @@ use Rattle.std.proofs.Common.{◌≡◌, [], length, true, get_or, ap, sym, ◌�
 use Rattle.std.specs.Str.{bytes_eq}
 use Rattle.std.proofs.lemmas.List.{get_or_default}
 use Rattle.std.proofs.lemmas.List.Sums.{position_or_len_is}
-use Rattle.omega_lang_inclusion.proofs.open_letters.number_among.Goals as goal
+use Rattle.omega_lang_inclusion.proofs.open_letters.place_among.Goals as goal
 
 pub returns-then-eq : goal.returns-then-eq
 returns-then-eq c =
