@@ -10,8 +10,8 @@ use omega_synth_controllers::has_controllable_item;
 use omega_text::Refusal;
 use std::alloc::Global;
 
-/// Returns the line that says that the automaton of a text lacks the header item `controllable-AP:`, with its line feed.
-/// Refused with [Refusal::Memory].
+/// Returns the line that says that the automaton of a text lacks the header item `controllable-AP:`, with its line
+/// feed. Refused with [Refusal::Memory].
 ///
 /// There is no line and the result is empty if `text` is not that of one automaton, or if its automaton has the item.
 /// Linear in the text.

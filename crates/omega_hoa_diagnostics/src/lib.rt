@@ -2,7 +2,8 @@
 //!
 //! docs/formats.md says when each `Refusal` comes.
 //!
-//! Why an automaton is not deterministic, and that it lacks the item `controllable-AP:`: lines for people, about its text.
+//! Why an automaton is not deterministic, and that it lacks the item `controllable-AP:`: lines for people, about its
+//! text.
 //!
 //! docs/formats.md says when the refusal comes that the line explains.
 #![tactic(auto)]

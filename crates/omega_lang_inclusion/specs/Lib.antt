@@ -1,5 +1,5 @@
--- Containment, and words that automata accept: what public contracts cite, and in `private` what private contracts alone
--- cite.
+-- Containment, and words that automata accept: what public contracts cite, and in `private` what private contracts
+-- alone cite.
 pub mod Containing
 pub mod Equality
 pub mod Refusing

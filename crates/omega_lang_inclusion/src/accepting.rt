@@ -36,8 +36,8 @@ use std::alloc::Global;
 /// - Fails with [TaskFault::TooLarge] or [TaskFault::TooManyPropositions] if a letter is not judged together with a
 ///   proposition of `automaton`, as `can_hold_together` of `omega_hoa_edges` does.
 /// - Fails with [TaskFault::NotDeterministic] for that state if a letter leaves a proposition of `automaton` open.
-/// - Or else fails as `pair_graph` does for the two automata, or with [TaskFault::TooManyPropositions] if it is undecided
-///   whether a letter can be true.
+/// - Or else fails as `pair_graph` does for the two automata, or with [TaskFault::TooManyPropositions] if it is
+///   undecided whether a letter can be true.
 ///
 /// Takes the time of these calls, and to judge the letters two calls of `can_hold_together` for each letter and each
 /// proposition of `automaton`.

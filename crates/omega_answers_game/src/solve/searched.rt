@@ -19,9 +19,9 @@ use omega_solve::budget::Reporter;
 use std::alloc::Global;
 
 /// Returns the solution text of `game`, found by a search as `searching` says, and judged. If the search gives none,
-/// the game is solved by lifting: in turns whatever the bounds if `budget` is the most and nobody listens, else with the budget for each
-/// player's run. Only then does [TaskFault::TooWide] or [TaskFault::Budget] come. No contract says when the search
-/// gives one. The search goes against edges, so the predecessors are listed first.
+/// the game is solved by lifting: in turns whatever the bounds if `budget` is the most and nobody listens, else with
+/// the budget for each player's run. Only then does [TaskFault::TooWide] or [TaskFault::Budget] come. No contract says
+/// when the search gives one. The search goes against edges, so the predecessors are listed first.
 pub fn solve_by_judged_search<L, W: Reporter<L>>(
     alloc: Global,
     game: ForwardGame,
@@ -65,8 +65,8 @@ fn searched_text<L, W: Reporter<L>>(
     write_solution(alloc, game.forward_game(), &solution)
 }
 
-/// Returns the solution of `game`, by the search or else by lifting, and adds the turns of the searchers. Fails with [TaskFault::TooWide] or
-/// [TaskFault::Budget].
+/// Returns the solution of `game`, by the search or else by lifting, and adds the turns of the searchers. Fails with
+/// [TaskFault::TooWide] or [TaskFault::Budget].
 pub fn searched_solution<L, W: Reporter<L>>(
     alloc: Global,
     game: &Game,
