@@ -80,7 +80,7 @@ def unrealizable_automaton(each: int) -> bytes:
     marks = odd((each, each, each))
     last = len(marks)
     states = "".join(f"State: {state} [t] {state + 1} {{{mark}}} " for state, mark in enumerate(marks) if state)
-    return (f'HOA: v1 States: {last + 1} Start: 0 AP: 1 "e" acc-name: {PARITY_7} --BODY-- '
+    return (f'HOA: v1 States: {last + 1} Start: 0 AP: 1 "e" controllable-AP: acc-name: {PARITY_7} --BODY-- '
             f"State: 0 [0] 0 {{1}} [!0] 1 {{6}} {states}State: {last} [t] {last} {{0}} --END--").encode()
 
 
