@@ -12,7 +12,8 @@ use Rattle.omega_hoa_automaton.specs.Automaton.{Description, IsAutomaton, has_re
 use Rattle.omega_hoa_automaton.specs.Laws.{MeaningsAreAutomata}
 use Rattle.omega_hoa_edges.specs.Determinism.{IsDeterministic}
 use Rattle.omega_lang_runs.specs.Words.{CanBeTaken, IsAccepted}
-use Rattle.omega_lang_word_laws.specs.NamedWords.{AcceptsNamed, NamedWord, part_of}
+use Rattle.omega_text.specs.NamedWords.{NamedWord}
+use Rattle.omega_lang_word_laws.specs.NamedWords.{AcceptsNamed, part_of}
 use Rattle.omega_lang_word_laws.proofs.naming.Named.{accepted_same, own_place}
 use Rattle.omega_synth_controllers.specs.Controllable.{IsControlled, IsStated, has_item}
 use Rattle.omega_synth_controllers.specs.Laws.{CounterStrategiesBeat}

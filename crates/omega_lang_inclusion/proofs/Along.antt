@@ -7,7 +7,8 @@ use Rattle.omega_lang_runs.specs.Words.{Allows, CanBeTaken}
 use Rattle.omega_lang_runs.proofs.runs.Words.{held_by}
 use Rattle.omega_lang_lasso_word.specs.Fitting.{along}
 use Rattle.omega_lang_inclusion.specs.Containing.{GoesAlong}
-use Rattle.omega_lang_word_laws.specs.NamedWords.{NamedWord, part_of}
+use Rattle.omega_text.specs.NamedWords.{NamedWord}
+use Rattle.omega_lang_word_laws.specs.NamedWords.{part_of}
 use Rattle.omega_lang_word_laws.proofs.naming.Named.{AgreeBelow, named_by, part_named}
 use Rattle.omega_lang_product.proofs.Holding.{truth_same}
 use Rattle.omega_lang_inclusion.specs.private.Named.{IsNamed}

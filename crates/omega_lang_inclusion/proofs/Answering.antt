@@ -19,7 +19,8 @@ use Rattle.omega_lang_lasso_word.specs.WordText.{word_text}
 use Rattle.omega_lang_lasso_word.specs.declared.lasso_word.LassoWord.{LassoWord}
 use Rattle.omega_lang_lasso_word.proofs.Admitted.{admitted_words_are_accepted}
 use Rattle.omega_lang_lasso_word.proofs.Fitted.{words_fit_where_edges_can_be_taken}
-use Rattle.omega_lang_word_laws.specs.NamedWords.{AcceptsNamed, NamedWord, part_of}
+use Rattle.omega_text.specs.NamedWords.{NamedWord}
+use Rattle.omega_lang_word_laws.specs.NamedWords.{AcceptsNamed, part_of}
 use Rattle.omega_lang_word_laws.specs.Complements.{IsParted}
 use Rattle.omega_lang_word_laws.specs.Graphs.{IsGraphOf}
 use Rattle.omega_lang_word_laws.proofs.meeting.Meeting.{products_meet}

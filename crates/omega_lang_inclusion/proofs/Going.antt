@@ -10,7 +10,7 @@ use Rattle.omega_lang_inclusion.proofs.Along.{word_along}
 use Rattle.omega_hoa_label.specs.Label.{LabelTree, propositions}
 use Rattle.omega_lang_runs.specs.Lasso.{IsAcceptingLasso, label_of}
 use Rattle.omega_lang_runs.proofs.Kept.{edge_kept}
-use Rattle.omega_lang_word_laws.specs.NamedWords.{NamedWord}
+use Rattle.omega_text.specs.NamedWords.{NamedWord}
 use Rattle.omega_lang_word_laws.proofs.meeting.Lists.{same_some}
 
 -- the labels of an automaton have only propositions that it names

@@ -7,7 +7,7 @@ use Rattle.omega_lang_inclusion.specs.declared.containment.Containment.TheVarian
 use Rattle.omega_lang_inclusion.specs.declared.containment.Counterexample.{Counterexample}
 use Rattle.omega_lang_lasso_word.specs.declared.symbolic_word.SymbolicWord.{SymbolicWord}
 use Rattle.omega_text.specs.hoa.Forms.{IsQuotable}
-use Rattle.omega_lang_word_laws.specs.NamedWords.{NamedWord}
+use Rattle.omega_text.specs.NamedWords.{NamedWord}
 use Rattle.omega_lang_lasso_word.specs.Laws.{HasStrings}
 use Rattle.omega_lang_inclusion.specs.Membership.{HasStringNames, IsMembership, IsRejected}
 use Rattle.omega_lang_inclusion.specs.Written.{IsWordAutomaton}

@@ -22,7 +22,8 @@ use Rattle.omega_lang_product.specs.declared.graph.PairGraph.{PairGraph}
 use Rattle.omega_lang_product.specs.declared.transition.Transition.{Transition}
 use Rattle.omega_lang_product.proofs.Membership.{Contains-cases, Contains-here, Contains-nothing, Contains-there}
 use Rattle.omega_lang_word_laws.specs.Graphs.{IsGraphOf}
-use Rattle.omega_lang_word_laws.specs.NamedWords.{NamedWord, part_of}
+use Rattle.omega_text.specs.NamedWords.{NamedWord}
+use Rattle.omega_lang_word_laws.specs.NamedWords.{part_of}
 use Rattle.omega_lang_word_laws.proofs.naming.Named.{named_by, part_named}
 use Rattle.omega_lang_word_laws.proofs.meeting.Found.{number_below, number_tells}
 use Rattle.omega_lang_product.proofs.Holding.{and_both, truth_same}

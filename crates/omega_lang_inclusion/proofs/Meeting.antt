@@ -13,7 +13,8 @@ use Rattle.omega_lang_runs.specs.declared.verdict.Verdict.{Verdict}
 use Rattle.omega_lang_runs.specs.declared.verdict.Verdict.TheVariants.{Empty, Lasso}
 use Rattle.omega_lang_runs.proofs.Verdicts.{empty_accepts_no_word}
 use Rattle.omega_lang_word_laws.specs.Graphs.{IsGraphOf}
-use Rattle.omega_lang_word_laws.specs.NamedWords.{AcceptsNamed, NamedWord, part_of}
+use Rattle.omega_text.specs.NamedWords.{NamedWord}
+use Rattle.omega_lang_word_laws.specs.NamedWords.{AcceptsNamed, part_of}
 use Rattle.omega_lang_word_laws.proofs.meeting.Graphs.{graphs_of_products}
 use Rattle.omega_lang_word_laws.proofs.meeting.Meeting.{products_meet}
 use Rattle.omega_lang_word_laws.proofs.naming.Parted.{products_meet_named}

@@ -9,7 +9,8 @@ use Rattle.omega_lang_lasso_word.specs.Fitting.{along}
 use Rattle.omega_lang_product.specs.PairGraph.{IsPairGraph}
 use Rattle.omega_lang_product.specs.declared.graph.PairGraph.{PairGraph}
 use Rattle.omega_lang_word_laws.specs.Graphs.{IsGraphOf}
-use Rattle.omega_lang_word_laws.specs.NamedWords.{NamedWord, part_of}
+use Rattle.omega_text.specs.NamedWords.{NamedWord}
+use Rattle.omega_lang_word_laws.specs.NamedWords.{part_of}
 use Rattle.omega_lang_inclusion.specs.private.Named.{IsNamed}
 use Rattle.omega_lang_inclusion.proofs.AcceptedWords.{HoldSame}
 use Rattle.omega_lang_inclusion.proofs.Made.{first_at, first_marks, first_start, first_step, first_taken, state_at}

@@ -21,7 +21,8 @@ use Rattle.omega_lang_runs.specs.Words.{index_in}
 use Rattle.omega_lang_runs.specs.declared.verdict.Verdict.TheVariants.{Empty}
 use Rattle.omega_lang_runs.proofs.Verdicts.{empty_accepts_no_word}
 use Rattle.omega_lang_lasso_word.specs.declared.symbolic_word.SymbolicWord.{SymbolicWord}
-use Rattle.omega_lang_word_laws.specs.NamedWords.{AcceptsNamed, NamedWord, part_of}
+use Rattle.omega_text.specs.NamedWords.{NamedWord}
+use Rattle.omega_lang_word_laws.specs.NamedWords.{AcceptsNamed, part_of}
 use Rattle.omega_lang_inclusion.specs.Membership.{HasStringNames, IsMembership, IsRejected}
 use Rattle.omega_lang_inclusion.specs.Written.{IsWordAutomaton}
 use Rattle.omega_lang_inclusion.specs.declared.membership.Membership.TheVariants.{Accepted, Rejected}

@@ -17,7 +17,8 @@ use Rattle.omega_lang_runs.specs.Words.{Allows, IsAccepted}
 use Rattle.omega_hoa_satisfiable.specs.Satisfiable.{IsSatisfiable}
 use Rattle.omega_lang_lasso_word.specs.Admitted.{Admits, holds, is_true_letter}
 use Rattle.omega_lang_lasso_word.specs.declared.symbolic_word.SymbolicWord.{SymbolicWord}
-use Rattle.omega_lang_word_laws.specs.NamedWords.{NamedWord, part_of}
+use Rattle.omega_text.specs.NamedWords.{NamedWord}
+use Rattle.omega_lang_word_laws.specs.NamedWords.{part_of}
 use Rattle.omega_lang_inclusion.specs.Written.{IsWordAutomaton, letter_count, letters_of, next_state}
 use Rattle.omega_lang_inclusion.proofs.Edges.{HasLetterEdge, IsLetterEdge, edges_counted, edges_there}
 use Rattle.omega_lang_inclusion.proofs.WordLetters.{letter_worth, some_is}

@@ -9,7 +9,8 @@ use Rattle.omega_lang_product.proofs.Membership.{Contains-here, Contains-there}
 use Rattle.omega_hoa_label.specs.Raw.{RawLabelTree}
 use Rattle.omega_lang_lasso_word.specs.Admitted.{Admits, holds}
 use Rattle.omega_lang_lasso_word.specs.declared.symbolic_word.SymbolicWord.{SymbolicWord}
-use Rattle.omega_lang_word_laws.specs.NamedWords.{AcceptsNamed, IsPeriodicFor, NamedWord, part_of}
+use Rattle.omega_text.specs.NamedWords.{NamedWord}
+use Rattle.omega_lang_word_laws.specs.NamedWords.{AcceptsNamed, IsPeriodicFor, part_of}
 use Rattle.omega_lang_word_laws.proofs.naming.Named.{AgreeBelow, accepted_same, contained_at}
 use Rattle.omega_lang_inclusion.specs.Laws.{OneWordsAreAcceptedTogether}
 use Rattle.omega_lang_inclusion.specs.Membership.{AcceptsAdmitted, AreAccepted}

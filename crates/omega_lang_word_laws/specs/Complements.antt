@@ -11,7 +11,8 @@ use Rattle.omega_lang_complement.specs.Complement.{IsComplement}
 use Rattle.omega_hoa_edges.specs.Determinism.{IsDeterministic}
 use Rattle.omega_lang_complement.specs.Written.{IsWrittenComplement}
 use Rattle.omega_text.specs.Omniscience.{LimitedPrincipleOfOmniscience}
-use Rattle.omega_lang_word_laws.specs.NamedWords.{AcceptsNamed, IsPeriodicFor, NamedWord}
+use Rattle.omega_text.specs.NamedWords.{NamedWord}
+use Rattle.omega_lang_word_laws.specs.NamedWords.{AcceptsNamed, IsPeriodicFor}
 
 -- no word is accepted by a deterministic automaton and by its complement
 abbrev pub ComplementsAreApart : Type 0

@@ -1,11 +1,8 @@
 -- Words over names. Automata share the propositions that have one name, whatever their numbers are (HOA v1, AP).
-use Rattle.std.specs.Prelude.{◌≡◌, ◌<◌, ◌≤◌, ◌+◌, ◌↔◌, ℕ, Bool, List, [], length, slice_index_or, Contains}
+use Rattle.std.specs.Prelude.{◌≡◌, ◌<◌, ◌↔◌, ℕ, Bool, List, [], length, slice_index_or, Contains}
+use Rattle.omega_text.specs.NamedWords.{NamedWord, RepeatsItself}
 use Rattle.omega_hoa_automaton.specs.Automaton.{Description, IsAutomaton}
 use Rattle.omega_lang_runs.specs.Words.{IsAccepted}
-
--- a word over names says for each index and each name whether the proposition of that name holds there
-abbrev pub NamedWord : Type 0
-NamedWord = ℕ → List ℕ → Bool
 
 -- the part of such a word that an automaton with propositions of these names sees, by their numbers
 abbrev pub part_of : List (List ℕ) → NamedWord → ℕ → ℕ → Bool
@@ -14,17 +11,6 @@ part_of names word i number = word i (slice_index_or names number [])
 -- an automaton accepts its part of such a word
 abbrev pub AcceptsNamed : Description → NamedWord → Type 0
 AcceptsNamed a word = IsAccepted a (part_of a.propositions word)
-
--- from some index on such a word repeats itself after a period, as far as some names go
-pub record RepeatsItself (IsSeen : List ℕ → Type 0) (word : NamedWord) : Type 0 where
-  pub start : ℕ
-  pub period : ℕ
-  pub some : 0 < period
-  pub repeats : (i : ℕ) (name : List ℕ) → start ≤ i → IsSeen name → word (i + period) name ≡ word i name
-
--- the word is ultimately periodic
-abbrev pub IsPeriodic : NamedWord → Type 0
-IsPeriodic = RepeatsItself (λ name. Unit {0})
 
 -- what an automaton sees of it is
 abbrev pub IsPeriodicFor : Description → NamedWord → Type 0

@@ -6,7 +6,8 @@ use Rattle.omega_lang_runs.specs.Words.{IsAccepted}
 use Rattle.omega_lang_product.specs.Joining.{part_of_word}
 use Rattle.omega_lang_product.specs.Pairs.{first_view, second_view}
 use Rattle.omega_lang_product.specs.Product.{IsProduct}
-use Rattle.omega_lang_word_laws.specs.NamedWords.{AcceptsNamed, NamedWord}
+use Rattle.omega_text.specs.NamedWords.{NamedWord}
+use Rattle.omega_lang_word_laws.specs.NamedWords.{AcceptsNamed}
 
 -- the product of two automata without universal branching accepts a word over the propositions of both exactly if each
 -- accepts its part of the word

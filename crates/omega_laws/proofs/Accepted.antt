@@ -18,7 +18,8 @@ use Rattle.omega_lang_lasso_word.specs.Laws.{FittingWordsAreAccepted, HasStrings
 use Rattle.omega_hoa_round_trips.specs.Laws.{ReadAutomataAreWritable}
 use Rattle.omega_lang_lasso_word.specs.Admitted.{Admits}
 use Rattle.omega_lang_lasso_word.specs.declared.symbolic_word.SymbolicWord.{SymbolicWord}
-use Rattle.omega_lang_word_laws.specs.NamedWords.{AcceptsNamed, NamedWord}
+use Rattle.omega_text.specs.NamedWords.{NamedWord}
+use Rattle.omega_lang_word_laws.specs.NamedWords.{AcceptsNamed}
 use Rattle.omega_lang_word_text.specs.Laws.{FittingTextsAreRead, WordsAreNotRefused, WordsOfTextsAreOne}
 use Rattle.omega_lang_word_text.specs.Text.{IsWordRefusal, IsWordText}
 use Rattle.omega_lang_inclusion.specs.Membership.{IsMembership}

@@ -7,7 +7,7 @@ use Rattle.omega_lang_complement.specs.Complement.{HasComplement, IsComplement}
 use Rattle.omega_hoa.specs.Alone.{IsAutomatonText}
 use Rattle.omega_hoa_round_trips.specs.Laws.{WasRead}
 use Rattle.omega_answers_automaton.specs.Complement.{IsComplementAnswer}
-use Rattle.omega_lang_word_laws.specs.NamedWords.{NamedWord}
+use Rattle.omega_text.specs.NamedWords.{NamedWord}
 use Rattle.omega_laws.specs.TextWords.{AreParted, IsText}
 
 -- the canonical text of the complement of an automaton that was read is the text of that complement, if it is within

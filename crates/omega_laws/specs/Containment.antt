@@ -8,7 +8,7 @@ use Rattle.omega_answers_empty.specs.empty.Answer.{IsEmptyAnswer, IsEmptySearchA
 use Rattle.omega_answers_automaton.specs.Complement.{IsComplementAnswer}
 use Rattle.omega_answers_automaton.specs.Meet.{IsMeetAnswer}
 use Rattle.omega_text.specs.Omniscience.{LimitedPrincipleOfOmniscience}
-use Rattle.omega_lang_word_laws.specs.NamedWords.{NamedWord}
+use Rattle.omega_text.specs.NamedWords.{NamedWord}
 use Rattle.omega_laws.specs.TextWords.{TextAccepts}
 
 -- what `meet` writes for two texts is, within the limit of texts, the text of an automaton; it accepts a word exactly

@@ -9,7 +9,7 @@ use Rattle.omega_lang_lasso_word.specs.Admitted.{Admits}
 use Rattle.omega_lang_lasso_word.specs.Fitting.{Fits}
 use Rattle.omega_lang_lasso_word.specs.declared.symbolic_word.SymbolicWord.{SymbolicWord}
 use Rattle.omega_lang_word_text.specs.Text.{IsWordText}
-use Rattle.omega_lang_word_laws.specs.NamedWords.{IsPeriodic, NamedWord}
+use Rattle.omega_text.specs.NamedWords.{IsPeriodic, NamedWord}
 use Rattle.omega_lang_inclusion.specs.OneWord.{IsOneWordFor}
 use Rattle.omega_answers_inclusion.specs.Accepts.{IsAcceptsAnswer}
 use Rattle.omega_answers_inclusion.specs.Contained.{IsContainedAnswer}

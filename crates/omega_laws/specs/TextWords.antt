@@ -2,7 +2,8 @@
 use Rattle.std.specs.Prelude.{◌⊎◌, ℕ, List}
 use Rattle.omega_hoa_automaton.specs.Automaton.{Description}
 use Rattle.omega_hoa.specs.Alone.{IsAutomatonText}
-use Rattle.omega_lang_word_laws.specs.NamedWords.{AcceptsNamed, IsPeriodic, NamedWord}
+use Rattle.omega_text.specs.NamedWords.{IsPeriodic, NamedWord}
+use Rattle.omega_lang_word_laws.specs.NamedWords.{AcceptsNamed}
 use Rattle.omega_text.specs.Omniscience.{LimitedPrincipleOfOmniscience}
 
 -- the text is that of an automaton that accepts its part of the word

@@ -2,7 +2,7 @@
 use Rattle.std.specs.Prelude.{◌↔◌, ◌≤◌, ℕ, List, length}
 use Rattle.omega_text.specs.Limits.{most_text}
 use Rattle.omega_answers_automaton.specs.TrimmedMeet.{IsMeetTrimmedAnswer}
-use Rattle.omega_lang_word_laws.specs.NamedWords.{NamedWord}
+use Rattle.omega_text.specs.NamedWords.{NamedWord}
 use Rattle.omega_laws.specs.TextWords.{IsText, TextAccepts}
 
 -- what `meet --trim` writes for two texts is, within the limit of texts, the text of an automaton; it accepts a word

@@ -6,7 +6,7 @@ use Rattle.omega_hoa_automaton.specs.Automaton.{Description, IsAutomaton}
 use Rattle.omega_hoa_automaton.specs.Branching.{has_universal_branching}
 use Rattle.omega_lang_runs.specs.Words.{IsAccepted}
 use Rattle.omega_lang_trim.specs.Trimmed.{IsTrimmed}
-use Rattle.omega_lang_word_laws.specs.NamedWords.{NamedWord}
+use Rattle.omega_text.specs.NamedWords.{NamedWord}
 use Rattle.omega_laws.specs.TextWords.{IsText, TextAccepts}
 
 -- a word is accepted exactly if it is accepted without the useless states

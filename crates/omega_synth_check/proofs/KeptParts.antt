@@ -8,7 +8,8 @@ use Rattle.omega_lang_runs.specs.Words.{CanBeTaken, IsAccepted}
 use Rattle.omega_synth_controllers.specs.Controllers.{HasAnswer, IsController, IsMet}
 use Rattle.omega_synth_controllers.proofs.Accepting.{kept_runs_are_accepting}
 use Rattle.omega_text.specs.Omniscience.{LimitedPrincipleOfOmniscience}
-use Rattle.omega_lang_word_laws.specs.NamedWords.{AcceptsNamed, NamedWord, part_of}
+use Rattle.omega_text.specs.NamedWords.{NamedWord}
+use Rattle.omega_lang_word_laws.specs.NamedWords.{AcceptsNamed, part_of}
 use Rattle.omega_synth_check.specs.Judging.{IsAnswered, IsReached}
 use Rattle.omega_synth_check.specs.Laws.{IsKeptPart, KeptPartsAreJudgedRight, KeptPartsControl}
 use Rattle.omega_synth_check.proofs.Judgements.{judgements_are_exact}

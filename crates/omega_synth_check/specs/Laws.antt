@@ -7,7 +7,8 @@ use Rattle.omega_lang_runs.specs.Words.{CanBeTaken}
 use Rattle.omega_synth_controllers.specs.Controllers.{IsController}
 use Rattle.omega_synth_controllers.specs.Strategies.{System, word_of}
 use Rattle.omega_text.specs.Omniscience.{LimitedPrincipleOfOmniscience}
-use Rattle.omega_lang_word_laws.specs.NamedWords.{AcceptsNamed, NamedWord, part_of}
+use Rattle.omega_text.specs.NamedWords.{NamedWord}
+use Rattle.omega_lang_word_laws.specs.NamedWords.{AcceptsNamed, part_of}
 use Rattle.omega_synth_check.specs.Judging.{IsControllerFor, IsJudgement, IsReached}
 use Rattle.omega_synth_check.specs.Refusing.{AcceptsAll}
 use Rattle.omega_synth_check.specs.declared.judgement.Judgement.{Judgement}

@@ -1,5 +1,5 @@
 -- What contracts cite: refusals and limits, then tokens, texts and how they are read; of PGSolver's texts in `pg`.
--- Labels in the DOT language, and texts of numbered items: what contracts cite.
+-- Labels in the DOT language, texts of numbered items, and words over names of propositions.
 pub mod Bytes
 pub mod Cases
 pub mod Cursor
@@ -9,6 +9,7 @@ pub mod Forms
 pub mod Lexeme
 pub mod JoinedLists
 pub mod Limits
+pub mod NamedWords
 pub mod Omniscience
 pub mod Reading
 pub mod Refusal

@@ -6,7 +6,8 @@ use Rattle.omega_lang_runs.specs.declared.verdict.Verdict.TheVariants.{Empty, La
 use Rattle.omega_text.specs.declared.refusal.Refusal.{Refusal}
 use Rattle.omega_text.specs.declared.refusal.Refusal.TheVariants.{Task}
 use Rattle.omega_text.specs.declared.refusal.task.TaskFault.TheVariants.{NotDeterministic}
-use Rattle.omega_lang_word_laws.specs.NamedWords.{AcceptsNamed, NamedWord}
+use Rattle.omega_text.specs.NamedWords.{NamedWord}
+use Rattle.omega_lang_word_laws.specs.NamedWords.{AcceptsNamed}
 
 -- the state that a refusal for a choice names
 abbrev pub choice_in : Refusal → Option ℕ

@@ -13,7 +13,8 @@ use Rattle.omega_hoa_automaton.specs.Automaton.{BodyEdge, Description, IsAutomat
 use Rattle.omega_lang_runs.specs.Lasso.{label_of}
 use Rattle.omega_lang_runs.specs.Words.{Allows, IsAccepted}
 use Rattle.omega_lang_runs.proofs.Kept.{edge_kept}
-use Rattle.omega_lang_word_laws.specs.NamedWords.{AcceptsNamed, NamedWord, WordsAreNamed, WordsSeenAlikeAreOne, part_of}
+use Rattle.omega_text.specs.NamedWords.{NamedWord}
+use Rattle.omega_lang_word_laws.specs.NamedWords.{AcceptsNamed, WordsAreNamed, WordsSeenAlikeAreOne, part_of}
 use Rattle.omega_lang_product.proofs.Holding.{truth_same}
 use Rattle.omega_lang_word_laws.proofs.meeting.Lists.{passes_nowhere}
 use Rattle.omega_lang_word_laws.proofs.parting.Plain.{or_parts}

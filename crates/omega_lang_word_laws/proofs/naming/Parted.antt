@@ -15,7 +15,8 @@ use Rattle.omega_lang_product.specs.Joining.{joined_names, part_of_word, places_
 use Rattle.omega_lang_product.specs.Pairs.{first_view, second_view}
 use Rattle.omega_lang_product.specs.Product.{IsProduct}
 use Rattle.omega_lang_product.proofs.Membership.{Contains-here, Contains-there}
-use Rattle.omega_lang_word_laws.specs.NamedWords.{AcceptsNamed, NamedWord, part_of}
+use Rattle.omega_text.specs.NamedWords.{NamedWord}
+use Rattle.omega_lang_word_laws.specs.NamedWords.{AcceptsNamed, part_of}
 use Rattle.omega_lang_word_laws.specs.Products.{ProductsMeet}
 use Rattle.omega_lang_product.proofs.Holding.{or_either}
 use Rattle.omega_lang_word_laws.proofs.meeting.Lists.{contains_filter}

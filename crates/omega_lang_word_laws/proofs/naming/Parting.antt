@@ -6,7 +6,8 @@ use Rattle.omega_hoa_edges.specs.Determinism.{IsDeterministic}
 use Rattle.omega_lang_complement.specs.Complement.{IsComplement}
 use Rattle.omega_lang_runs.specs.Words.{IsAccepted}
 use Rattle.omega_lang_word_laws.specs.Complements.{ComplementsPartByName}
-use Rattle.omega_lang_word_laws.specs.NamedWords.{AcceptsNamed, NamedWord, part_of}
+use Rattle.omega_text.specs.NamedWords.{NamedWord}
+use Rattle.omega_lang_word_laws.specs.NamedWords.{AcceptsNamed, part_of}
 use Rattle.omega_lang_word_laws.proofs.naming.Named.{contained_at}
 use Rattle.omega_lang_word_laws.proofs.naming.Periodic.{complements_over_periodic}
 use Rattle.omega_lang_word_laws.proofs.naming.Same.{same_names}

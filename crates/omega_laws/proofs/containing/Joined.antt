@@ -8,7 +8,8 @@ use Rattle.omega_hoa.specs.Alone.{IsAutomatonText}
 use Rattle.omega_hoa.specs.Laws.{AutomataAreOne}
 use Rattle.omega_hoa_round_trips.specs.Laws.{ReadAutomataAreWritable}
 use Rattle.omega_lang_trim.specs.Written.{written}
-use Rattle.omega_lang_word_laws.specs.NamedWords.{AcceptsNamed, NamedWord}
+use Rattle.omega_text.specs.NamedWords.{NamedWord}
+use Rattle.omega_lang_word_laws.specs.NamedWords.{AcceptsNamed}
 use Rattle.omega_lang_word_laws.proofs.parting.Plain.{or_parts}
 use Rattle.omega_laws.specs.Unions.{JoinedTextsAcceptEither, UnionsAcceptEitherByName}
 use Rattle.omega_laws.specs.WrittenTexts.{FitsTexts, WrittenAutomataAreReadBack}

@@ -9,7 +9,7 @@ use Rattle.omega_lang_lasso_word.specs.Fitting.{Fits}
 use Rattle.omega_lang_lasso_word.specs.LassoWordText.{lasso_word_text}
 use Rattle.omega_lang_lasso_word.specs.Laws.{HasStrings}
 use Rattle.omega_lang_lasso_word.specs.declared.symbolic_word.SymbolicWord.{SymbolicWord}
-use Rattle.omega_lang_word_laws.specs.NamedWords.{NamedWord}
+use Rattle.omega_text.specs.NamedWords.{NamedWord}
 use Rattle.omega_lang_word_text.specs.Laws.{FittingTextsAreRead, NamesAreStrings, WordsOfTextsAreOne}
 use Rattle.omega_lang_inclusion.specs.Membership.{IsMembership}
 use Rattle.omega_lang_inclusion.specs.OneWord.{IsOneWordFor}

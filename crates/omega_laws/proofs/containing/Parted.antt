@@ -6,7 +6,8 @@ use Rattle.omega_hoa_automaton.specs.Laws.{MeaningsAreAutomata}
 use Rattle.omega_hoa.specs.Alone.{IsAutomatonText}
 use Rattle.omega_hoa.specs.Laws.{AutomataAreOne}
 use Rattle.omega_lang_word_laws.specs.Complements.{ComplementsPartByName}
-use Rattle.omega_lang_word_laws.specs.NamedWords.{AcceptsNamed, IsPeriodic, IsPeriodicFor, NamedWord}
+use Rattle.omega_text.specs.NamedWords.{IsPeriodic, NamedWord}
+use Rattle.omega_lang_word_laws.specs.NamedWords.{AcceptsNamed, IsPeriodicFor}
 use Rattle.omega_laws.specs.ComplementTexts.{ComplementTextsAcceptTheRest, ComplementsAreReadBack}
 use Rattle.omega_laws.specs.TextWords.{TextAccepts}
 use Rattle.omega_laws.proofs.containing.Texts.{is_automaton, of_automaton, of_text}

@@ -18,7 +18,8 @@ use Rattle.omega_answers_automaton.specs.Meet.{IsMeetAnswer}
 use Rattle.omega_laws.specs.ComplementTexts.{ComplementsAreReadBack}
 use Rattle.omega_lang_word_laws.specs.Complements.{ComplementsAreApart, ComplementsCover}
 use Rattle.omega_laws.specs.Containment.{EmptyMeansContained, IsContainmentAnswer, IsEmptinessAnswer, LassosMeanNotContained, MetTextsAcceptBoth}
-use Rattle.omega_lang_word_laws.specs.NamedWords.{AcceptsNamed, NamedWord, part_of}
+use Rattle.omega_text.specs.NamedWords.{NamedWord}
+use Rattle.omega_lang_word_laws.specs.NamedWords.{AcceptsNamed, part_of}
 use Rattle.omega_laws.specs.ProductTexts.{ProductsAreReadBack}
 use Rattle.omega_laws.specs.TextWords.{TextAccepts}
 use Rattle.omega_lang_word_laws.specs.Products.{ProductsMeet}

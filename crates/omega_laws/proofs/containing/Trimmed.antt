@@ -12,7 +12,8 @@ use Rattle.omega_lang_runs.specs.Words.{IsAccepted}
 use Rattle.omega_lang_trim.specs.Trimmed.{IsTrimmed}
 use Rattle.omega_laws.specs.Trims.{TrimmedTextsAcceptTheSame, TrimsAcceptTheSame}
 use Rattle.omega_laws.specs.WrittenTexts.{FitsTexts, WrittenAutomataAreReadBack}
-use Rattle.omega_lang_word_laws.specs.NamedWords.{AcceptsNamed, NamedWord, part_of}
+use Rattle.omega_text.specs.NamedWords.{NamedWord}
+use Rattle.omega_lang_word_laws.specs.NamedWords.{AcceptsNamed, part_of}
 use Rattle.omega_lang_word_laws.specs.Products.{ProductsMeetByName}
 use Rattle.omega_lang_word_laws.proofs.parting.Plain.{or_parts}
 use Rattle.omega_laws.specs.Trimming.{TrimmedMeetingsAcceptBoth}

@@ -234,7 +234,7 @@ static ROWS: [(Refusal, u32, &str, Option<usize>, &str); 35] = [
         58,
         "Controllable",
         None,
-        "controllable-AP: repeats, or names a proposition twice or one that there is not",
+        "controllable-AP: is missing, repeats, or names a proposition twice or one that there is not",
     ),
     (Refusal::Memory, 60, "Memory", None, "out of memory"),
     (Refusal::Io, 61, "Io", None, "a read or a write failed"),

@@ -32,8 +32,8 @@ pub enum TaskFault {
     /// 56: two starts, or two edges of this state that can be taken at one letter.
     #[error("the automaton is not deterministic at state {0}")]
     NotDeterministic(usize),
-    /// 58: `controllable-AP:` stands twice, or names a proposition twice or one that there is not.
-    #[error("controllable-AP: repeats, or names a proposition twice or one that there is not")]
+    /// 58: `controllable-AP:` is missing or stands twice, or names a proposition twice or one that there is not.
+    #[error("controllable-AP: is missing, repeats, or names a proposition twice or one that there is not")]
     Controllable,
 }
 
