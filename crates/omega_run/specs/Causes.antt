@@ -4,7 +4,8 @@ use Rattle.omega_text.specs.Refusal.{place_of}
 use Rattle.omega_text.specs.declared.refusal.Refusal.{Refusal}
 use Rattle.omega_text.specs.declared.refusal.Refusal.TheVariants.{Automaton, Game, Task, Text}
 use Rattle.omega_text.specs.declared.refusal.game.GameFault.TheVariants.{TooManyEdges, TooManyNodes}
-use Rattle.omega_text.specs.declared.refusal.task.TaskFault.TheVariants.{BadSolution, Controllable, NotDeterministic}
+use Rattle.omega_text.specs.declared.refusal.task.TaskFault.TheVariants.{BadSolution, Controllable}
+use Rattle.omega_text.specs.declared.refusal.task.TaskFault.TheVariants.{NotDeterministic}
 use Rattle.omega_game_values.specs.Game.{Node}
 use Rattle.omega_hoa_diagnostics.specs.AutomatonCauses.{IsAutomatonCause}
 use Rattle.omega_pg_diagnostics.specs.GameCauses.{IsGameCause}

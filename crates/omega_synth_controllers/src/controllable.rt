@@ -2,8 +2,11 @@ ghost use Rattle.std.specs.Prelude.{◌≡◌, ◌<◌, [], ◌∷◌, IfErr, If
 ghost use Rattle.std.specs.Prelude.{filter, length, slice_index_or};
 ghost use Rattle.std.specs.List.{list_any};
 ghost use Rattle.omega_hoa_automaton.specs.declared.header.Header.{Header as header_item};
-ghost use Rattle.omega_synth_controllers.specs.Controllable.{AreNumbersOf, HasControlled, HasStated, IsControlled};
-ghost use Rattle.omega_synth_controllers.specs.Controllable.{IsMisstated, IsStated, HasNumbers, has_item as has_item_of, is_controllable_item};
+ghost use Rattle.omega_synth_controllers.specs.Controllable.{AreNumbersOf, HasControlled};
+ghost use Rattle.omega_synth_controllers.specs.Controllable.{HasStated, IsControlled};
+ghost use Rattle.omega_synth_controllers.specs.Controllable.{IsMisstated, IsStated, HasNumbers};
+ghost use Rattle.omega_synth_controllers.specs.Controllable.{has_item as has_item_of};
+ghost use Rattle.omega_synth_controllers.specs.Controllable.{is_controllable_item};
 
 use omega_hoa_automaton::{Automaton, Header, HeaderValue};
 use omega_text::{Numbers, Refusal, TaskFault};

@@ -5,7 +5,8 @@ ghost use Rattle.omega_synth_rounds.specs.Naming.{IsNamedGame};
 ghost use Rattle.omega_synth_rounds.specs.Rounds.{IsRounds};
 ghost use Rattle.omega_synth_game.specs.Laws.{IsParted};
 ghost use Rattle.omega_synth_game.specs.Sizes.{IsGameSmall};
-ghost use Rattle.omega_synth_realize.specs.Gaming.{IsPartedGame, IsRealizabilityGame, IsRealizabilityGameRefusal, no_rounds};
+ghost use Rattle.omega_synth_realize.specs.Gaming.{IsPartedGame, IsRealizabilityGame};
+ghost use Rattle.omega_synth_realize.specs.Gaming.{IsRealizabilityGameRefusal, no_rounds};
 ghost use Rattle.omega_synth_realize.specs.Refusing.{HasNoLargeGame, IsJudgeable};
 
 use crate::parting::{Parted, parted_rounds};
