@@ -13,7 +13,6 @@ use std::marker::Model;
 /// A parity game without its predecessors: all that is read of it forward. Texts, drawings and judgements need no more.
 /// If each node has two successors, it takes three fifths of the memory of the `Game` that `with_predecessors` makes of
 /// it. A place is a node's position, from 0, in rising order of identifiers.
-#[derive(Drop)]
 pub struct ForwardGame {
     // Empty if the identifiers are 0 to n - 1: each place is its identifier then.
     listed: IndexSet<u32>,
@@ -24,6 +23,20 @@ pub struct ForwardGame {
     // last node that is named.
     quoted: Lists<u8>,
     priority_counts: Vec<PriorityCount>,
+}
+
+impl Drop for ForwardGame {
+    // By hand, so that a game is dropped by a call at each exit of a function that owns it, not field by field.
+    fn drop(self) {
+        let ForwardGame {
+            listed: _,
+            priorities: _,
+            owners: _,
+            successors: _,
+            quoted: _,
+            priority_counts: _,
+        } = self;
+    }
 }
 
 impl Model for ForwardGame {

@@ -13,10 +13,19 @@ use std::marker::Model;
 
 /// A parity game, with the predecessors of each place. A place is a node's position, from 0, in rising order of
 /// identifiers.
-#[derive(Drop)]
 pub struct Game {
     forward: ForwardGame,
     predecessors: Lists<u32>,
+}
+
+impl Drop for Game {
+    // By hand, so that a game is dropped by a call at each exit of a function that owns it, not field by field.
+    fn drop(self) {
+        let Game {
+            forward: _,
+            predecessors: _,
+        } = self;
+    }
 }
 
 impl Model for Game {

@@ -8,7 +8,7 @@ use omega_text::Seq;
 use std::alloc::{AllocError, Global};
 
 /// For each place of a game its winner, and for each player a strategy.
-#[derive(Debug, Drop, PartialEq, Eq)]
+#[derive(Debug, PartialEq, Eq)]
 pub struct Solution {
     /// The winners by place.
     pub winners: Seq<Player>,
@@ -16,6 +16,17 @@ pub struct Solution {
     pub zero: Strategy,
     /// The choices of player 1.
     pub one: Strategy,
+}
+
+impl Drop for Solution {
+    // By hand, so that a solution is dropped by a call at each exit of a function that owns it, not field by field.
+    fn drop(self) {
+        let Solution {
+            winners: _,
+            zero: _,
+            one: _,
+        } = self;
+    }
 }
 
 impl Solution {
