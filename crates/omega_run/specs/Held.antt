@@ -1,7 +1,8 @@
 -- A run of a command on texts that are in memory.
 use Rattle.std.specs.Prelude.{◌≡◌, ◌⊎◌, ◌++◌, Bool, true, false, List, [], Option, None, Some, Result, Err, ℕ}
 use Rattle.omega_text.specs.declared.refusal.Refusal.{Refusal}
-use Rattle.omega_game_search.specs.declared.turns.Turns.{Turns}
+use Rattle.omega_answers_game.specs.declared.solve.searching.Searching.{Searching}
+use Rattle.omega_answers_game.specs.solve.SearchLines.{search_lines}
 use Rattle.omega_cli_command.specs.declared.command.Command.{Command}
 use Rattle.omega_cli_command.specs.declared.command.Command.TheVariants.{TwoTexts}
 use Rattle.omega_cli_command.specs.declared.task.Task.{Task}
@@ -16,7 +17,7 @@ use Rattle.omega_run.specs.Causes.{IsCauseTold}
 use Rattle.omega_run.specs.Lenient.{AreReadAs, AreUnread}
 use Rattle.omega_run.specs.Progress.{AreProgressLines}
 use Rattle.omega_run.specs.Results.{plain, text_in}
-use Rattle.omega_run.specs.Searching.{AreTurnsFor, search_lines}
+use Rattle.omega_run.specs.Searching.{AreTurnsFor}
 use Rattle.omega_run.specs.Report.{ReportsCause}
 use Rattle.omega_run.specs.TwoTexts.{name_of}
 use Rattle.omega_run.specs.World.{KeepsOutput, Written, write_failure}
@@ -40,21 +41,20 @@ IsReportedSo task command written read failure outcome status tells =
     ReportsCause (lines_about task.verbose failure command (text_in outcome))
     (IsCauseTold task.verbose command written read (text_in outcome)) (plain outcome) status tells
 
--- the command made its answer to the texts that are read, with this progress and these turns of searchers; it was
--- written, and what came of that was reported: the lines of the progress, those on the turns and those of a refusal are
--- one text
+-- the command made its answer to the texts that are read, with this progress and this search; it was written, and what
+-- came of that was reported: the lines of the progress, those on the search and those of a refusal are one text
 pub record IsAnswered (task : Task) (command : Command) (written read : Texts) (status : ℕ)
     (tells : List ℕ → Type 0) (before after : Written) : Type 0 where
   pub made : Result (Exit × List ℕ) Refused
   pub answer : IsAnswer command task.budget read made
   pub lines : List ℕ
   pub progress : AreProgressLines task.progress command task.budget read made lines
-  pub turns : Option Turns
-  pub searched : AreTurnsFor command made turns
+  pub left : Searching
+  pub searched : AreTurnsFor command made left
   pub outcome : Result Exit Refused
   pub written_so : IsWritten made outcome before after
   pub reported : IsReportedSo task command written read (write_failure after) outcome status
-      (λ text. tells ((lines ++ search_lines task.verbose turns) ++ text))
+      (λ text. tells ((lines ++ search_lines task.verbose left) ++ text))
 
 -- the texts are read as they are; or leniently, as strict texts, if there are such
 abbrev pub IsReadSo : (lenient : Bool) → Task → Command → Texts → ℕ → (List ℕ → Type 0)

@@ -11,7 +11,7 @@ use crate::one_text::answer_one_text;
 use crate::stream::answer_stream;
 use crate::texts::Texts;
 use crate::two_texts::answer_two_texts;
-use omega_answers_game::Turns;
+use omega_answers_game::Searching;
 use omega_cli_command::Command;
 use omega_io::{Exit, Refusal, Refused, Which};
 use omega_solve::budget::Reporter;
@@ -19,22 +19,22 @@ use std::alloc::Global;
 
 /// Returns what a command makes of its texts, with how it ends; or why they are refused, and which of them that is
 /// about. Each run of a solver makes at most `budget` lifts. Those of a command of one text are reported to the
-/// observer. If a game is searched, its `turns` are those of the searchers.
+/// observer. If a game is searched, `searching` says how, with the turns of the searchers.
 pub(crate) fn answer<L, T: Reporter<L>>(
     alloc: Global,
     command: &Command,
     texts: Texts<'_>,
     budget: u64,
-    turns: &mut Option<Turns>,
+    searching: &mut Searching,
     reporter: &T,
     observer: &mut L,
 ) -> Result<(Exit, Vec<u8>), Refused>
     requires budget { budget ≤ most_lifts }
-    requires turns { turns.old ≡ None }
+    requires turns { searching.old.turns ≡ None }
     requires limit { length texts.input.now ≤ most_text + 1 }
     ensures answer { IsAnswer command.now budget
         (both_texts texts.entry.other.now texts.entry.input.now) (with_bytes (λ made. made.items) result) }
-    ensures turns { AreTurnsFor command.now (with_bytes (λ made. made.items) result) turns.new }
+    ensures turns { AreTurnsFor command.now (with_bytes (λ made. made.items) result) searching.new }
     ensures reported { IsReported (T.tells reporter.now) (T.pace reporter.now) command.now budget
         (both_texts texts.entry.other.now texts.entry.input.now) (with_bytes (λ made. made.items) result)
         observer.old observer.new }
@@ -42,7 +42,7 @@ pub(crate) fn answer<L, T: Reporter<L>>(
     match command {
         Command::OneText(one) => {
             let input = texts.input;
-            of_input(answer_one_text(alloc, *one, input, budget, turns, reporter, observer))
+            of_input(answer_one_text(alloc, *one, input, budget, searching, reporter, observer))
         }
         Command::Stream(stream) => {
             of_input(answer_stream(alloc, *stream, &mut HeldText::new(texts.input), budget))

@@ -16,6 +16,7 @@ use crate::reporting::{lines_about, report_lines};
 use crate::searching::tell_search;
 use crate::texts::{Held, Texts};
 use crate::writing::write_answer;
+use omega_answers_game::Searching;
 use omega_cli_command::{Command, Format, Task};
 use omega_io::{Exit, Failure, Output, Refused, exit_code, failure_of};
 use omega_text::MOST_TEXT;
@@ -113,17 +114,17 @@ fn run_held<W: Output, E: Output>(
         (written_to W.Output output.old) (written_to W.Output output.new) }
 {
     let sound = errors.failures();
-    let mut turns = None;
+    let mut searching = Searching::in_turns();
     let outcome = write_answer(
         alloc,
         held.command,
         task,
         held.read,
-        &mut turns,
+        &mut searching,
         output,
         errors,
     );
-    tell_search(errors, sound, task.verbose, turns);
+    tell_search(errors, sound, task.verbose, searching);
     if errors.failures() > sound {
         // The lines of progress and of the search broke off, and those of a refusal are of the same text.
         return status_of(outcome);

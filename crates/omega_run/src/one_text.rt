@@ -17,8 +17,8 @@ use omega_answers_empty::{
     write_emptiness_game,
 };
 use omega_answers_game::{
-    Asked, Searcher, Searching, Turns, canon_game, canon_least, canon_part, check_game,
-    draw_game_text, show_game, show_json, solve_game,
+    Asked, Searcher, Searching, canon_game, canon_least, canon_part, check_game, draw_game_text,
+    show_game, show_json, solve_game,
 };
 use omega_answers_synth::{
     decide_realizability, decide_realizability_by_lifting, write_realizability_game, write_winner,
@@ -31,25 +31,25 @@ use omega_solve::budget::Reporter;
 use std::alloc::Global;
 
 /// Returns what a command makes of its text, with how it ends, or why the text is refused. Each run of a solver makes
-/// at most `budget` lifts, and is reported to the observer. If a game is searched, its `turns` are those of the
-/// searchers.
+/// at most `budget` lifts, and is reported to the observer. If a game is searched, `searching` says how, with the turns
+/// of the searchers.
 pub(crate) fn answer_one_text<L, T: Reporter<L>>(
     alloc: Global,
     command: OneText,
     text: &[u8],
     budget: u64,
-    turns: &mut Option<Turns>,
+    searching: &mut Searching,
     reporter: &T,
     observer: &mut L,
 ) -> Result<(Exit, Vec<u8>), Refusal>
     requires budget { budget ≤ most_lifts }
-    requires turns { turns.old ≡ None }
+    requires turns { searching.old.turns ≡ None }
     ensures answered { IfOk result
         (λ made. AnswersOneText command budget text.now (Ok (made.0, made.1.items))) }
     ensures refused { IfErr result
         (or_memory (λ refusal. AnswersOneText command budget text.now (Err refusal))) }
     ensures unfailed { failures_of result ≡ 0 }
-    ensures turns { AreTurnsOf command (with_bytes (λ made. made.items) result) turns.new }
+    ensures turns { AreTurnsOf command (with_bytes (λ made. made.items) result) searching.new }
     ensures reported { IsReportedOf (T.tells reporter.now) (T.pace reporter.now) command budget
         text.now (with_bytes (λ made. made.items) result) observer.old observer.new }
 {
@@ -62,12 +62,12 @@ pub(crate) fn answer_one_text<L, T: Reporter<L>>(
         OneText::CanonLeast { from } => Ok((Exit::Done, canon_least(alloc, text, from)?)),
         OneText::Solve { player, from } => {
             let asked = asked_for(player);
-            let mut searching = Searching::plainly();
+            let mut unsearched = Searching::in_turns();
             let made = solve_game(
                 alloc,
                 text,
                 asked,
-                &mut searching,
+                &mut unsearched,
                 from,
                 budget,
                 reporter,
@@ -76,18 +76,17 @@ pub(crate) fn answer_one_text<L, T: Reporter<L>>(
             Ok((Exit::Done, made?))
         }
         OneText::Search { from, by, effort } => {
-            let mut searching = searching_by(by, effort);
+            *searching = searching_by(by, effort);
             let made = solve_game(
                 alloc,
                 text,
                 Asked::Search,
-                &mut searching,
+                searching,
                 from,
                 budget,
                 reporter,
                 observer,
             );
-            *turns = searching.turns;
             Ok((Exit::Done, made?))
         }
         OneText::Empty {
@@ -137,7 +136,7 @@ fn asked_for(player: Option<Player>) -> Asked
     }
 }
 
-/// Returns how a game is searched: by the searcher of this name alone, or by both if none is named.
+/// Returns a search to be made by the searcher of this name alone, or by both in turns if none is named.
 fn searching_by(name: Option<SearcherName>, effort: u64) -> Searching
     ensures { result ≡ searching_by name effort }
 {
@@ -146,9 +145,5 @@ fn searching_by(name: Option<SearcherName>, effort: u64) -> Searching
         Some(SearcherName::Tangles) => Some(Searcher::Tangles),
         None => None,
     };
-    Searching {
-        alone,
-        effort,
-        turns: None,
-    }
+    Searching::by(alone, effort)
 }

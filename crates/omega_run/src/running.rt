@@ -7,6 +7,7 @@ use crate::answering::answer;
 use crate::obeying::write_stream;
 use crate::texts::Texts;
 use crate::writing::write_made;
+use omega_answers_game::Searching;
 use omega_cli_command::Command;
 use omega_io::{Exit, Input, Output, Refused, read_all};
 use omega_solve::budget::NoObserver;
@@ -41,13 +42,13 @@ pub fn run_command<R: Input, W: Output>(
     match read_all(alloc, input) {
         Ok(text) => {
             let input = text.as_slice();
-            let mut turns = None;
+            let mut searching = Searching::in_turns();
             let made = answer(
                 alloc,
                 command,
                 Texts { other, input },
                 budget,
-                &mut turns,
+                &mut searching,
                 &NoObserver,
                 &mut (),
             );

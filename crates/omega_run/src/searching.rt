@@ -1,26 +1,25 @@
 //! Lines on standard error that say how the turns of the searchers of a game ended.
 ghost use Rattle.std.specs.Prelude.{◌≡◌, ◌++◌, ◌||◌, ◌-◌, ◌^◌, ◌<◌, ◌≤◌, codes, decimal};
-ghost use Rattle.omega_game_search.specs.Turns.{has_found};
-ghost use Rattle.omega_run.specs.Searching.{ending_line, lifted_line, search_lines, turn_line};
-ghost use Rattle.omega_run.specs.Searching.{turn_lines};
+ghost use Rattle.omega_answers_game.specs.solve.SearchLines.{ending_line, have_found, lifted_line};
+ghost use Rattle.omega_answers_game.specs.solve.SearchLines.{search_lines, turn_line, turn_lines};
 ghost use Rattle.omega_run.specs.private.steps.Telling.{TellsOn};
 
 use crate::progress::{tell_number, tell_on};
-use omega_answers_game::{Turn, Turns};
+use omega_answers_game::{Searching, Turn, Turns};
 use omega_io::Output;
 
-/// If `verbose` is set and there are turns, writes their lines after the text so far, unless more than `sound` writes
-/// have failed. They take no memory.
+/// If `verbose` is set and a game was searched, writes the lines on the turns after the text so far, unless more than
+/// `sound` writes have failed. They take no memory.
 pub(crate) fn tell_search<E: Output>(
     errors: &mut E,
     sound: u64,
     verbose: bool,
-    turns: Option<Turns>,
+    searching: Searching,
 )
     ensures { TellsOn sound (E.contents errors.old) (E.contents errors.new) (E.failed errors.old)
-        (E.failed errors.new) (search_lines verbose turns) }
+        (E.failed errors.new) (search_lines verbose searching) }
 {
-    match turns {
+    match searching.turns {
         Some(turns) if verbose => tell_turns(errors, sound, turns),
         _ => tell_on(errors, sound, b""),
     }
@@ -50,16 +49,9 @@ fn tell_lifted<E: Output>(errors: &mut E, sound: u64, found: bool)
 
 /// Whether a searcher found a solution in these turns.
 fn have_found(turns: Turns) -> bool
-    ensures { result ≡ (has_found turns.zielonka || has_found turns.tangles) }
+    ensures { result ≡ have_found turns }
 {
-    has_found(turns.zielonka) || has_found(turns.tangles)
-}
-
-/// Whether the searcher found a solution in this turn.
-fn has_found(turn: Turn) -> bool
-    ensures { result ≡ has_found turn }
-{
-    matches!(turn, Turn::Found { .. })
+    matches!(turns.zielonka, Turn::Found { .. }) || matches!(turns.tangles, Turn::Found { .. })
 }
 
 /// Writes the line on a turn of the searcher of this name, if it was taken.

@@ -14,26 +14,26 @@ ghost use Rattle.omega_run.specs.private.steps.Telling.{HasReported};
 use crate::answering::answer;
 use crate::progress::ProgressLines;
 use crate::texts::Texts;
-use omega_answers_game::Turns;
+use omega_answers_game::Searching;
 use omega_cli_command::{Command, Task};
 use omega_io::{Exit, Output, Refused, write_text};
 use omega_solve::budget::{LIFTS_BETWEEN_REPORTS, NoObserver};
 use std::alloc::Global;
 
 /// Makes the whole answer of a command to its texts in memory, and then writes it. Lines of progress, if the task asks
-/// for them, go to standard error; if one cannot be written, no more are. If a game is searched, its `turns` are those
-/// of the searchers.
+/// for them, go to standard error; if one cannot be written, no more are. If a game is searched, `searching` says how, with
+/// the turns of the searchers.
 pub(crate) fn write_answer<W: Output, E: Output>(
     alloc: Global,
     command: &Command,
     task: &Task,
     texts: Texts<'_>,
-    turns: &mut Option<Turns>,
+    searching: &mut Searching,
     output: &mut W,
     errors: &mut E,
 ) -> Result<Exit, Refused>
     requires budget { task.now.budget ≤ most_lifts }
-    requires turns { turns.old ≡ None }
+    requires turns { searching.old.turns ≡ None }
     requires limit { length texts.input.now ≤ most_text + 1 }
     requires writes { W.failed output.old < 2 ^ 64 - 1 }
     requires tells { E.failed errors.old < 2 ^ 64 - 1 }
@@ -41,7 +41,7 @@ pub(crate) fn write_answer<W: Output, E: Output>(
         × IsAnswer command.now task.now.budget (both_texts texts.entry.other.now texts.entry.input.now) made
         × AreProgressLines task.now.progress command.now task.now.budget
         (both_texts texts.entry.other.now texts.entry.input.now) made lines
-        × AreTurnsFor command.now made turns.new
+        × AreTurnsFor command.now made searching.new
         × IsWritten made result (written_to W.Output output.old) (written_to W.Output output.new)
         × HasReported (E.contents errors.old) (E.contents errors.new)
         (E.failed errors.old) (E.failed errors.new) lines }
@@ -52,7 +52,7 @@ pub(crate) fn write_answer<W: Output, E: Output>(
             command,
             texts,
             task.budget,
-            turns,
+            searching,
             &NoObserver,
             &mut (),
         );
@@ -62,7 +62,7 @@ pub(crate) fn write_answer<W: Output, E: Output>(
         every: LIFTS_BETWEEN_REPORTS,
         sound: errors.failures(),
     };
-    let made = answer(alloc, command, texts, task.budget, turns, &lines, errors);
+    let made = answer(alloc, command, texts, task.budget, searching, &lines, errors);
     write_made(made, output)
 }
 

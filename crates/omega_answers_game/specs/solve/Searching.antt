@@ -1,9 +1,14 @@
--- What a search of a game leaves: the turns of the searchers.
-use Rattle.std.specs.Prelude.{◌≡◌, ◌⊎◌, Option, Some}
+-- What a search of a game is to be, and what it leaves: the turns of the searchers.
+use Rattle.std.specs.Prelude.{◌≡◌, ◌⊎◌, Option, Some, None, ℕ}
 use Rattle.omega_game_values.specs.declared.solution.Solution.{Solution}
 use Rattle.omega_game_search.specs.Turns.{AreTurns}
+use Rattle.omega_game_search.specs.declared.searcher.Searcher.{Searcher}
 use Rattle.omega_game_search.specs.declared.turns.Turns.{Turns}
 use Rattle.omega_answers_game.specs.declared.solve.searching.Searching.{Searching}
+
+-- a search that is to be made: by one searcher alone, or by both in turns if none is asked for
+abbrev pub unsearched : (alone : Option Searcher) → (effort : ℕ) → Searching
+unsearched alone effort = record { alone = alone; effort = effort; turns = None }
 
 -- the game was searched, and the turns that were then taken are added
 pub record IsSearched (before after : Searching) : Type 0 where

@@ -12,12 +12,24 @@ pub struct Searching {
 }
 
 impl Searching {
-    /// Returns what is to be searched by both searchers in turns, with an effort of 1.
-    pub fn plainly() -> Searching {
+    ghost use Rattle.std.specs.Prelude.{◌≡◌, None};
+    ghost use Rattle.omega_answers_game.specs.solve.Searching.{unsearched};
+
+    /// Returns a search to be made by one searcher `alone`, or by both in turns if none is asked for.
+    pub fn by(alone: Option<Searcher>, effort: u64) -> Searching
+        ensures { result ≡ unsearched alone effort }
+    {
         Searching {
-            alone: None,
-            effort: 1,
+            alone,
+            effort,
             turns: None,
         }
+    }
+
+    /// Returns a search to be made by both searchers in turns, with an effort of 1.
+    pub fn in_turns() -> Searching
+        ensures { result ≡ unsearched None 1 }
+    {
+        Searching::by(None, 1)
     }
 }

@@ -11,6 +11,7 @@ ghost use Rattle.omega_answers_game.specs.Winners.{IsWinnersAnswer, IsWinnersGam
 ghost use Rattle.omega_answers_game.specs.Winners.{IsWinnersVerdict, RefusesWinners, wrong_line};
 ghost use Rattle.omega_answers_game.specs.declared.solve.asked.Asked.TheVariants.{Search};
 ghost use Rattle.omega_answers_game.specs.solve.Refusing.{IsSolveGameRefusal};
+ghost use Rattle.omega_answers_game.specs.solve.Searching.{IsSearched, unsearched};
 ghost use Rattle.omega_answers_game.specs.private.steps.Winners.{AreWinnersJudged, GiveTheSame};
 ghost use Rattle.omega_answers_game.specs.private.steps.Winners.{IsFirstDifference, IsUnsolvedRefusal};
 ghost use Rattle.omega_answers_game.specs.private.steps.Winners.{explanation_text, refutation_lines};
@@ -105,32 +106,29 @@ fn verdict_on_winners(
     ensures refused { IfErr result (IsSolveGameRefusal game Search None most_lifts) }
 {
     let whole = game.with_predecessors(alloc)?;
-    let made = verdict_by_search(alloc, &whole, winners, explain);
+    let mut searching = Searching::in_turns();
+    let made = verdict_by_search(alloc, &whole, &mut searching, winners, explain);
     drop_whole(whole);
     made
 }
 
-/// Solves `game` and returns the verdict on `winners`, as `verdict_on_winners` does.
+/// Solves `game` and returns the verdict on `winners`, as `verdict_on_winners` does. The search is one by both searchers
+/// in turns, with an effort of 1.
 fn verdict_by_search(
     alloc: Global,
     game: &Game,
+    searching: &mut Searching,
     winners: &[Player],
     explain: bool,
 ) -> Result<(Exit, Vec<u8>), Refusal>
-    requires { length winners.now ≡ length game.now }
+    requires count { length winners.now ≡ length game.now }
+    requires in_turns { searching.old ≡ unsearched None 1 }
     ensures verdict { IfOk result
         (λ made. IsWinnersVerdict game.now winners.now explain made.0 made.1.items) }
+    ensures searched { OnOk result (IsSearched searching.old searching.new) }
     ensures refused { IfErr result (IsSolveGameRefusal game.now Search None most_lifts) }
 {
-    let mut searching = Searching::plainly();
-    let solution = searched_solution(
-        alloc,
-        game,
-        &mut searching,
-        MOST_LIFTS,
-        &NoObserver,
-        &mut (),
-    )?;
+    let solution = searched_solution(alloc, game, searching, MOST_LIFTS, &NoObserver, &mut ())?;
     verdict_by(alloc, game.forward_game(), &solution, winners, explain)
 }
 

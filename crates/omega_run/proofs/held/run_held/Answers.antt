@@ -1,8 +1,8 @@
 -- `run_held`: the lines on the search come after those of the progress, and those of a refusal after both, unless these
 -- broke off.
 use Rattle.std.proofs.Common.{◌++◌, ℕ, arith, subst}
+use Rattle.omega_answers_game.specs.solve.SearchLines.{search_lines}
 use Rattle.omega_run.specs.World.{tells_of}
-use Rattle.omega_run.specs.Searching.{search_lines}
 use Rattle.omega_run.specs.private.steps.Telling.{TellsOn}
 use Rattle.omega_run.proofs.ProgressLines.{broken_off, reported_on, told_after}
 use Rattle.omega_run.proofs.Reported.{reports_after, reports_any}
@@ -10,8 +10,8 @@ use Rattle.omega_run.proofs.held.run_held.Goals as goal
 
 pub returns-then-failures-sound : goal.returns-then-failures-sound
 returns-then-failures-sound g c =
-    let (made, lines, answer, progress, turns, written, reported) = c.write_answer-outcome.ensures in
-    let search = search_lines c.args.task.now.verbose c.write_answer-outcome.new.turns in
+    let (made, lines, answer, progress, searched, written, reported) = c.write_answer-outcome.ensures in
+    let search = search_lines c.args.task.now.verbose c.write_answer-outcome.new.searching in
     let on = subst (λ (sound : ℕ). TellsOn sound (g.E.Output.contents c.write_answer-outcome.new.errors) (g.E.Output.contents c.tell_search.new.errors)
     (g.E.Output.failed c.write_answer-outcome.new.errors) (g.E.Output.failed c.tell_search.new.errors) search) c.failures-sound.ensures c.tell_search.ensures in
     let whole = reported_on _ _ _ _ _ _ lines search c.requires.tells reported on in
@@ -20,8 +20,8 @@ returns-then-failures-sound g c =
       answer = answer;
       lines = lines;
       progress = progress;
-      turns = c.write_answer-outcome.new.turns;
-      searched = turns;
+      left = c.write_answer-outcome.new.searching;
+      searched = searched;
       outcome = c.write_answer-outcome.result;
       written_so = written;
       reported = reports_any _ _ _ _ (λ text. tells_of g.E.Output c.args.errors.now c.tell_search.new.errors ((lines ++ search) ++ text)) c.status_of.ensures
@@ -30,8 +30,8 @@ returns-then-failures-sound g c =
 
 pub returns : goal.returns
 returns g c =
-    let (made, lines, answer, progress, turns, written, reported) = c.write_answer-outcome.ensures in
-    let search = search_lines c.args.task.now.verbose c.write_answer-outcome.new.turns in
+    let (made, lines, answer, progress, searched, written, reported) = c.write_answer-outcome.ensures in
+    let search = search_lines c.args.task.now.verbose c.write_answer-outcome.new.searching in
     let on = subst (λ (sound : ℕ). TellsOn sound (g.E.Output.contents c.write_answer-outcome.new.errors) (g.E.Output.contents c.tell_search.new.errors)
     (g.E.Output.failed c.write_answer-outcome.new.errors) (g.E.Output.failed c.tell_search.new.errors) search) c.failures-sound.ensures c.tell_search.ensures in
     let whole = reported_on _ _ _ _ _ _ lines search c.requires.tells reported on in
@@ -40,8 +40,8 @@ returns g c =
       answer = answer;
       lines = lines;
       progress = progress;
-      turns = c.write_answer-outcome.new.turns;
-      searched = turns;
+      left = c.write_answer-outcome.new.searching;
+      searched = searched;
       outcome = c.write_answer-outcome.result;
       written_so = written;
       reported = reports_after _ _ _ _ _ (λ text. tells_of g.E.Output c.args.errors.now c.report_run.new.errors ((lines ++ search) ++ text))

@@ -1,6 +1,6 @@
 -- `tell_turns`: the lines, written one after another, are those on the turns.
 use Rattle.std.proofs.Common.{◌++◌, Bool, codes, subst}
-use Rattle.omega_run.specs.Searching.{lifted_line, turn_line}
+use Rattle.omega_answers_game.specs.solve.SearchLines.{lifted_line, turn_line}
 use Rattle.omega_run.specs.private.steps.Telling.{TellsOn}
 use Rattle.omega_run.proofs.ProgressLines.{on_and_on}
 use Rattle.omega_run.proofs.searching.tell_turns.Goals as goal
