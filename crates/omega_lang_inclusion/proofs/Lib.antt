@@ -5,6 +5,7 @@ pub mod Complementing
 pub mod Edges
 pub mod Going
 pub mod Judging
+pub mod Members
 pub mod WordLetters
 pub mod Opened
 pub mod Refused

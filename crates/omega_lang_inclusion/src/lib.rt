@@ -2,7 +2,8 @@
 //!
 //! Containment is the intersection with a complement: a counterexample is a word of both.
 //!
-//! Whether an automaton accepts each word that a symbolic word admits is decided so too, by the automaton of the word.
+//! Whether an automaton accepts each word that a symbolic word admits is decided so too, by the automaton of the word,
+//! and whether it accepts some of them by the intersection with that automaton.
 //!
 //! docs/formats.md says when each refusal comes.
 #![tactic(auto)]
@@ -17,6 +18,7 @@ mod making;
 mod membership;
 mod one_word;
 mod open_letters;
+mod some_word;
 mod states;
 
 pub use accepting::accepts;
@@ -25,6 +27,7 @@ pub use containment::Containment;
 pub use equality::{Equality, decide_equality, equality_of};
 pub use making::word_automaton;
 pub use membership::Membership;
+pub use some_word::accepts_some;
 pub use omega_hoa_automaton::{Automaton, Refusal};
-pub use omega_lang_intersection::Example;
+pub use omega_lang_intersection::{Example, Intersection};
 pub use omega_lang_lasso_word::SymbolicWord;
