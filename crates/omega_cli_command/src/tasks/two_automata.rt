@@ -43,12 +43,11 @@ pub(crate) fn accepts_task<'a>(alloc: Global, options: &Options<'a>) -> Result<T
         return Err(Mistake::Missing(OptionName::WordText));
     };
     let other = Other::of_word(alloc, word)?;
-    let asked = if some {
-        TwoTexts::AcceptsSome { explain }
+    if some {
+        Ok(Task::of(Command::TwoTexts(TwoTexts::AcceptsSome { explain }, other)))
     } else {
-        TwoTexts::Accepts { explain }
-    };
-    Ok(Task::of(Command::TwoTexts(asked, other)))
+        Ok(Task::of(Command::TwoTexts(TwoTexts::Accepts { explain }, other)))
+    }
 }
 
 /// Returns the task that `contained` requests with `options`, or what is wrong with them.
