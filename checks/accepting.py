@@ -3,6 +3,10 @@
 Each line `word` after `no` admits words that the word admits and the automaton does not accept. An automaton that
 accepts nothing writes back what was read of a word.
 
+`accepts --some` is asked of 1,500 more, whose automata have choices for the most part. Where it says `yes`, the lasso is
+one of the automaton's own edges, and each word that fits the line `word` is admitted, accepted, and goes along the
+lasso.
+
 A letter may be true at many sets of names, so that a word admits infinite words that repeat nothing. 600 words whose
 letters leave no proposition open are asked of random automata, most of them with choices. Else what is not
 deterministic is refused 56. 500 words with a byte changed are read, or refused with a place in the text of the word, as
@@ -17,10 +21,11 @@ from typing import TypeVar
 
 from automata import Automaton, Tree, read_one
 from causes import line_at
+from comparing_checks import along_fault
 from containing import after, dual, formula_of, with_letters
-from emptiness import Move, has_accepting_walk
+from emptiness import Move, has_accepting_walk, lasso_fault, moves_of, read_lasso
 from product_checks import INFINITELY, LANGUAGES, NO_STARTS, NO_STATES, SETLESS, Paired
-from products import Word, accepts, is_deterministic, names_of, valuations
+from products import Word, accepts, can_be_taken, is_deterministic, names_of, valuations
 from program import Cases, Fault, Ran, fault_of, refusal_fault, run_of, shown
 from words import Formula, NoWord, Reader, admitted, read_word
 
@@ -145,6 +150,56 @@ def accepts_fault(word: bytes, text: bytes) -> Fault:
     return explained_fault(automaton, symbolic, why)
 
 
+def is_some_accepted(automaton: Automaton, word: Symbolic) -> bool:
+    """Whether some word that the letters admit is accepted by the automaton, which may have choices."""
+    formulas, stem, names = word[0] + word[1], len(word[0]), names_of(automaton)
+    letters, taken = valuations(sorted({*NAMES, *names})), list[Move]()
+    for move in moves_of(automaton):
+        for place, formula in enumerate(formulas):
+            if any(formula(letter) and can_be_taken(move, names, letter) for letter in letters):
+                target = (move.targets[0], place + 1 if place + 1 < len(formulas) else stem)
+                taken.append(Move(len(taken), (move.source, place), [target], None, move.marks, 0))
+    begins = [(states[0], 0) for states in automaton.said(b"Start:")]
+    return has_accepting_walk(begins, taken, formula_of(automaton)[1])
+
+
+def example_fault(automaton: Automaton, word: Symbolic, explained: bytes) -> Fault:
+    """What is wrong with the lasso and the line that show that the automaton accepts a word that is admitted, or
+    nothing."""
+    stem_line, cycle_line, line = (explained.split(b"\n", 2) + [b"", b""])[:3]
+    lasso = read_lasso(stem_line + b"\n" + cycle_line + b"\n")
+    fault = lasso_fault(automaton, *lasso) if lasso else "no lasso"
+    if lasso is None or fault:
+        return f"{shown(explained)}: {fault}"
+    letters, drawn = valuations(NAMES), random.Random(line)
+    try:
+        stem, cycle = read_word(line)
+        for _ in range(4):
+            fitting = admitted(stem, letters, drawn.choice), admitted(cycle, letters, drawn.choice)
+            if not admits(word, *fitting) or not accepts(automaton, *fitting):
+                return f"{shown(line)} admits {fitting}, which is not admitted or not accepted"
+        return along_fault(automaton, automaton, lasso[0] + lasso[1], line)
+    except NoWord as why:
+        return f"{shown(line)}: {why}"
+
+
+def some_fault(word: bytes, text: bytes) -> Fault:
+    """What is wrong with what `accepts --some` says of a word and a text, or nothing."""
+    automaton, symbolic = read_one(text), Reader(word).word()
+    given = ["accepts", "--some", "--word", word.decode()]
+    plain, explained = run_of(given, text), run_of([*given, "--explain"], text)
+    yes = is_some_accepted(automaton, symbolic)
+    status, answer = (0, b"yes\n") if yes else (6, b"no\n")
+    if plain.stderr or (plain.returncode, plain.stdout) != (status, answer):
+        return f"the judge says {yes}, the answer is {told(plain)}"
+    if explained.stderr or explained.returncode != status or not explained.stdout.startswith(answer):
+        return f"with --explain: {told(explained)}"
+    why = explained.stdout.removeprefix(answer)
+    if not yes:
+        return f"it explains a no: {shown(why)}" if why else None
+    return example_fault(automaton, symbolic, why)
+
+
 def read_fault(word: bytes) -> Fault:
     """Whether a text is read as a word exactly if a slow reader reads it, or what is wrong."""
     try:
@@ -253,3 +308,10 @@ def accepting_checks() -> Cases:
     for _ in range(500):
         word = spelling.damaged()
         yield f"the text {word!r}", partial(read_fault, word)
+    for text in (*(text for text, _ in LANGUAGES), NO_STARTS, NO_STATES, SETLESS):
+        for word in WORDS_BY_HAND:
+            yield f"some word of {word!r} in {shown(text)}", partial(some_fault, word, text)
+    spelling, automata = Spelling(2034), Paired(2035)
+    for number in range(1500):
+        word, text = spelling.word(), automata.automaton(number % 4 == 0)
+        yield f"some word of {word!r} in {text!r}", partial(some_fault, word, text)

@@ -50,6 +50,8 @@ EXACT = {
         ("omega_answers_synth.specs.Laws", "ControllerAnswersAreExact", frozenset({"IsControllerAnswer"})),
     "`omega accepts`, the law `accepted_texts_are_accepted`":
         ("omega_laws.specs.InclusionTexts", "AcceptedTextsAreAccepted", frozenset({"IsAcceptsAnswer"})),
+    "`omega accepts --some`, the law `some_texts_are_accepted`":
+        ("omega_laws.specs.InclusionTexts", "SomeTextsAreAccepted", frozenset({"IsAcceptsSomeAnswer"})),
     "`omega contained`, the law `contained_texts_are_contained`":
         ("omega_laws.specs.InclusionTexts", "ContainedTextsAreContained", frozenset({"IsContainedAnswer"})),
     "`omega equal`, the law `equal_texts_are_equal`":
@@ -87,6 +89,7 @@ COMMANDS = {
     "verify --automaton": ("VerifyLasso",),
     "verify --specification": ("VerifyController",),
     "accepts": ("Accepts",),
+    "accepts --some": ("AcceptsSome",),
     "contained": ("Contained",),
     "contained --stream": ("ContainedStream",),
     "equal": ("Equal",),

@@ -99,6 +99,8 @@ RUNS: list[Run] = [
     *((["join", "--with"], BUCHI, text) for text in (BUCHI, TWO_SETS, WRITTEN, b"HOA: v1")),
     *((["accepts", *more, "--word", word], b"", text) for text in (BUCHI, OFTEN)
       for more in (NONE, ["--explain"]) for word in ("cycle{a}", '"b c" & !a; cycle{1; a}', "cycle{a")),
+    *((["accepts", "--some", *more, "--word", word], b"", text) for text in (BUCHI, OFTEN)
+      for more in (NONE, ["--explain"]) for word in ("cycle{a}", "cycle{!a}", "cycle{a")),
     (["accepts", "-v", "--word", "a;"], BUCHI, None),
     *(([*words, *more, option], one, other) for words, option in ((["contained"], "--in"), (["equal"], "--to"))
       for one, other in ((BUCHI, OFTEN), (OFTEN, BUCHI), (BUCHI, BUCHI), (BUCHI, b"HOA: v1"))

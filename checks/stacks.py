@@ -27,7 +27,8 @@ RUNS = ("canon --format hoa", "check --format hoa", "show --format hoa", "draw -
         "meet --trim --with f", "join --with f", "trim", "contained --in f", "contained --explain --in f",
         "equal --to f", "equal --explain --to f", "realize", "realize --controller", "realize --game", "realize --lift",
         "game", "verify --automaton f", "verify --specification f", "verify --specification f --explain",
-        "accepts --word cycle{1}", "accepts --explain --word cycle{p0}")
+        "accepts --word cycle{1}", "accepts --explain --word cycle{p0}",
+        "accepts --some --explain --word cycle{p0}")
 
 
 def nested(depth: int, left: str, right: str, innermost: str) -> str:

@@ -38,6 +38,11 @@ abbrev pub OfWordAndAutomaton : (SymbolicWord → Description → Type 0)
     → (word text : List ℕ) → Type 0
 OfWordAndAutomaton Holds word text = OfBoth (IsWordText word) (IsAutomatonText text) Holds
 
+-- the one is not the text of a word, or the other not that of an automaton
+abbrev pub IsWordOrAutomatonUnread : (word text : List ℕ) → Refused → Type 0
+IsWordOrAutomatonUnread word text =
+    IsEitherRefused (IsWordText word) (IsWordRefusal word) (IsAutomatonRefusal text)
+
 -- the answer of `accepts`: what is written of the word and the automaton is right
 abbrev pub IsAcceptsAnswer : (word text : List ℕ) (explain : Bool) → Exit → List ℕ → Type 0
 IsAcceptsAnswer word text explain exit output =
@@ -46,6 +51,5 @@ IsAcceptsAnswer word text explain exit output =
 -- the refusal of `accepts`, which calls the text of the word the file and the other the input: that of one of the
 -- texts, or else that of membership, which for a choice is about the automaton, and else about neither
 abbrev pub IsAcceptsRefused : (word text : List ℕ) → Refused → Type 0
-IsAcceptsRefused word text refused =
-    IsEitherRefused (IsWordText word) (IsWordRefusal word) (IsAutomatonRefusal text) refused
+IsAcceptsRefused word text refused = IsWordOrAutomatonUnread word text refused
     ⊎ OfWordAndAutomaton (λ symbolic a. IsRefusedFor Input (IsMembershipRefusal symbolic a) refused) word text

@@ -6,14 +6,13 @@ ghost use Rattle.omega_answers_inclusion.specs.Accepts.{IsAcceptsAnswer, IsAccep
 ghost use Rattle.omega_answers_inclusion.specs.Accepts.{IsMembershipVerdict, membership_answer};
 ghost use Rattle.omega_answers_inclusion.specs.Example.{word_line};
 
+use crate::word_and_automaton::{WordAndAutomaton, read_word_and_automaton};
 use crate::word_line::append_word_line;
 use omega_answers::{Answer, refused_for};
-use omega_hoa::read_one;
 use omega_hoa_automaton::{Automaton, Refusal};
 use omega_io::{Exit, Refused, Which};
 use omega_lang_inclusion::{Membership, accepts};
 use omega_lang_lasso_word::{LassoWord, SymbolicWord};
-use omega_lang_word_text::read_word;
 use std::alloc::Global;
 
 /// Decides whether the automaton of `text` accepts each word that the letters of `word` admit. Propositions that have
@@ -38,13 +37,9 @@ pub fn accepts_text(
         (λ made. IsAcceptsAnswer word.now text.now explain made.0 made.1.items) }
     ensures refused { IfErr result (IsAcceptsRefused word.now text.now) }
 {
-    match read_word(alloc, word) {
-        Ok(symbolic) => match read_one(alloc, text) {
-            Ok(automaton) => membership_verdict(alloc, symbolic, &automaton, explain),
-            Err(refusal) => Err(Refused::of(Which::Input, refusal)),
-        },
-        Err(refusal) => Err(Refused::of(Which::File, refusal)),
-    }
+    let read = read_word_and_automaton(alloc, word, text)?;
+    let WordAndAutomaton { symbolic, automaton } = read;
+    membership_verdict(alloc, symbolic, &automaton, explain)
 }
 
 /// Returns the exit and the text for a word and an automaton. Fails as [accepts_text] does after both texts are read.

@@ -3,7 +3,7 @@ ghost use Rattle.omega_io.specs.Answer.{explained};
 ghost use Rattle.omega_answers_inclusion.specs.Example.{example_lines};
 
 use crate::word_line::append_word_line;
-use omega_lang_inclusion::Counterexample;
+use omega_lang_inclusion::Example;
 use omega_lang_lasso_text::write_lasso;
 use omega_text::Refusal;
 use std::alloc::Global;
@@ -12,7 +12,7 @@ use std::alloc::Global;
 pub fn counterexample_lines(
     alloc: Global,
     who: &[u8],
-    example: &Counterexample,
+    example: &Example,
     explain: bool,
 ) -> Result<Vec<u8>, Refusal>
     ensures lines { IfOk result
@@ -28,7 +28,7 @@ pub fn counterexample_lines(
 }
 
 /// Appends the lines of the lasso of `example`, and the line of its word.
-fn append_lines(alloc: Global, example: &Counterexample, out: &mut Vec<u8>) -> Result<(), Refusal>
+fn append_lines(alloc: Global, example: &Example, out: &mut Vec<u8>) -> Result<(), Refusal>
     ensures lines { OnOk result (out.new.items ≡ out.old.items ++ example_lines example.now) }
     ensures memory { IsOkUnless result Refusal.Memory }
 {

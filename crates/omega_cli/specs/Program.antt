@@ -77,7 +77,7 @@ game = with_options (codes "game") (verbose ∷ operand (codes "file") ∷ [])
 
 abbrev pub accepts : Shape
 accepts = with_options (codes "accepts") (required_as (codes "word") (codes "word-text")
-    ∷ flag (codes "explain") ∷ verbose ∷ operand (codes "file") ∷ [])
+    ∷ flag (codes "some") ∷ flag (codes "explain") ∷ verbose ∷ operand (codes "file") ∷ [])
 
 abbrev pub contained : Shape
 contained = with_options (codes "contained") (required (codes "in") ∷ flag (codes "explain")

@@ -43,6 +43,18 @@ cycle{a & !a}, nothing speaks against it, and the answer is `yes`. With --explai
 word that is written as WORD is: each word that it admits is admitted by WORD, and the automaton accepts
 none of these.
 
+--some asks instead whether the automaton accepts some word that WORD admits, as Spot's `autfilt
+--accept-word` does. The automaton may have choices, and is never refused 56. If no word is admitted, the
+answer is `no`. With --explain three lines follow `yes`: an accepting lasso of the automaton, as
+`omega empty` writes it, and a word. Each word that fits its letters is admitted by WORD, and the automaton
+accepts it along the lasso.
+
+  $ omega accepts --some --word 'a; cycle{a | b}' --explain often.hoa
+  yes
+  stem 0
+  cycle 0
+  word a; cycle{a & (a | b)}
+
 Faults of WORD come first, 1 Lex, 2 Number or 3 Syntax with the place in WORD, then those of the text in
 FILE; `omega check --help` lists them. A text with --ABORT--, with no automaton or with several is not one
 automaton, and is refused as 3 Syntax. 55 TooLarge comes if WORD has over 1024 names, or if a letter is
@@ -62,9 +74,14 @@ const OPTIONS: &[OptionHelp] = &[
         help: "The word, as `omega empty --word` writes one, with a formula for each letter",
     },
     OptionHelp {
+        name: "some",
+        value: Value::None,
+        help: "Ask whether the automaton accepts some word that WORD admits, and not each",
+    },
+    OptionHelp {
         name: "explain",
         value: Value::None,
-        help: "Write after `no` a word that WORD admits and the automaton does not accept",
+        help: "Write after `no`, or with --some after `yes`, a word that shows it",
     },
     VERBOSE,
     FILE,

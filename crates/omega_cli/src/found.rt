@@ -27,6 +27,7 @@ pub fn options_in<'a>(found: &ArgMatches<'a>) -> Options<'a>
         names: found.get_str("names"),
         word: found.get_str("word"),
         word_text: found.get_str("word-text"),
+        for_some: found.get_str("some"),
         status: found.get_str("status"),
         with: found.get_str("with"),
         trim: found.get_str("trim"),

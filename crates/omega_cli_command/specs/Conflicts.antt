@@ -27,6 +27,7 @@ IsUsed name.Explain options = GivesFlag (text_of name.Explain options) true
 IsUsed name.Names options = GivesFlag (text_of name.Names options) true
 IsUsed name.Word options = GivesFlag (text_of name.Word options) true
 IsUsed name.WordText options = text_of name.WordText options ≢ None
+IsUsed name.ForSome options = GivesFlag (text_of name.ForSome options) true
 IsUsed name.Status options = GivesFlag (text_of name.Status options) true
 IsUsed name.With options = text_of name.With options ≢ None
 IsUsed name.Trim options = GivesFlag (text_of name.Trim options) true

@@ -23,6 +23,7 @@ text_of name.Explain options = option_map (λ text. text.now) options.explain
 text_of name.Names options = option_map (λ text. text.now) options.names
 text_of name.Word options = option_map (λ text. text.now) options.word
 text_of name.WordText options = option_map (λ text. text.now) options.word_text
+text_of name.ForSome options = option_map (λ text. text.now) options.for_some
 text_of name.Status options = option_map (λ text. text.now) options.status
 text_of name.With options = option_map (λ text. text.now) options.with
 text_of name.Trim options = option_map (λ text. text.now) options.trim

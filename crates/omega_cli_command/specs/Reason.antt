@@ -60,6 +60,7 @@ IsReason name.Explain text why = why ≡ reason.NoTruth
 IsReason name.Names text why = why ≡ reason.NoTruth
 IsReason name.Word text why = why ≡ reason.NoTruth
 IsReason name.WordText text why = ⊥
+IsReason name.ForSome text why = why ≡ reason.NoTruth
 IsReason name.Status text why = why ≡ reason.NoTruth
 IsReason name.With text why = ⊥
 IsReason name.Trim text why = why ≡ reason.NoTruth

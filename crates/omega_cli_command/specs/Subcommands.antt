@@ -49,6 +49,7 @@ HasOption subcommand name.Explain = (subcommand ≡ sub.Verify) ⊎ (subcommand 
 HasOption subcommand name.Names = (subcommand ≡ sub.Verify) ⊎ (subcommand ≡ sub.Empty)
 HasOption subcommand name.Word = subcommand ≡ sub.Empty
 HasOption subcommand name.WordText = subcommand ≡ sub.Accepts
+HasOption subcommand name.ForSome = subcommand ≡ sub.Accepts
 HasOption subcommand name.Status = subcommand ≡ sub.Empty
 HasOption subcommand name.With = (subcommand ≡ sub.Meet) ⊎ (subcommand ≡ sub.Join)
 HasOption subcommand name.Trim = subcommand ≡ sub.Meet

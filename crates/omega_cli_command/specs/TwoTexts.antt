@@ -67,7 +67,10 @@ AsksTwoTexts subcommand options two.Join source =
     (subcommand ≡ sub.Join) × NamesOther (text_of name.With options) source
 AsksTwoTexts subcommand options (two.Accepts explain) source = (subcommand ≡ sub.Accepts)
     × HasOther (text_of name.WordText options) source
-    × GivesFlag (text_of name.Explain options) explain
+    × GivesFlag (text_of name.Explain options) explain × GivesFlag (text_of name.ForSome options) false
+AsksTwoTexts subcommand options (two.AcceptsSome explain) source = (subcommand ≡ sub.Accepts)
+    × HasOther (text_of name.WordText options) source
+    × GivesFlag (text_of name.Explain options) explain × GivesFlag (text_of name.ForSome options) true
 AsksTwoTexts subcommand options (two.Contained explain) source = (subcommand ≡ sub.Contained)
     × NamesOther (text_of name.In options) source × GivesFlag (text_of name.Explain options) explain
     × GivesFlag (text_of name.Stream options) false

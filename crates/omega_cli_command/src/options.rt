@@ -18,6 +18,8 @@ pub enum OptionName {
     Word,
     /// The option `--word` with a text, in place of the flag.
     WordText,
+    /// The flag `--some`.
+    ForSome,
     Status,
     With,
     Trim,
@@ -60,6 +62,7 @@ impl fmt::Display for OptionName {
             OptionName::Names => "--names",
             OptionName::Word => "--word",
             OptionName::WordText => "--word <WORD>",
+            OptionName::ForSome => "--some",
             OptionName::Status => "--status",
             OptionName::With => "--with <FILE>",
             OptionName::Trim => "--trim",
@@ -116,6 +119,8 @@ pub struct Options<'a> {
     pub word: Option<&'a str>,
     /// The text of a word whose letters are formulas.
     pub word_text: Option<&'a str>,
+    /// As `search`.
+    pub for_some: Option<&'a str>,
     /// As `search`.
     pub status: Option<&'a str>,
     /// The name of the file of the other automaton.

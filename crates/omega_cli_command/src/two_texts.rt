@@ -1,4 +1,5 @@
-/// A command about two texts, that of the input and another: that of a file, or for `Accepts` the text of a word.
+/// A command about two texts, that of the input and another: that of a file, or for `Accepts` and
+/// `AcceptsSome` the text of a word.
 #[derive(Clone, Copy, Debug)]
 pub enum TwoTexts {
     /// Checks the solution that the input has, of the game of the file or of the part of it that one node reaches.
@@ -40,6 +41,11 @@ pub enum TwoTexts {
     /// Says whether the automaton of the input accepts each word that the other text admits.
     Accepts {
         /// Whether a `no` is explained.
+        explain: bool,
+    },
+    /// Says whether the automaton of the input accepts some word that the other text admits.
+    AcceptsSome {
+        /// Whether a `yes` is explained.
         explain: bool,
     },
     /// Says whether the automaton of the file accepts each word that the one of the input accepts.

@@ -4,9 +4,9 @@ use Rattle.std.specs.Prelude.{IfSome}
 use Rattle.std.specs.Option.{option_or}
 use Rattle.std.proofs.lemmas.List.Elements.{All-contains}
 use Rattle.omega_hoa_automaton.specs.Automaton.{BodyEdge, Description, IsAutomaton, IsEdge, IsLabel, IsState, edge_at}
-use Rattle.omega_lang_inclusion.specs.Containing.{GoesAlong}
-use Rattle.omega_lang_inclusion.specs.private.Named.{IsNamed}
-use Rattle.omega_lang_inclusion.proofs.Along.{word_along}
+use Rattle.omega_lang_intersection.specs.Intersection.{GoesAlong}
+use Rattle.omega_lang_intersection.specs.private.Named.{IsNamed}
+use Rattle.omega_lang_intersection.proofs.Along.{word_along}
 use Rattle.omega_hoa_label.specs.Label.{LabelTree, propositions}
 use Rattle.omega_lang_runs.specs.Lasso.{IsAcceptingLasso, label_of}
 use Rattle.omega_lang_runs.proofs.Kept.{edge_kept}

@@ -4,7 +4,7 @@ use Rattle.std.specs.List.{AllByRecursion}
 use Rattle.omega_hoa_automaton.specs.Automaton.{Description}
 use Rattle.omega_lang_inclusion.specs.Containing.{IsContainment, IsOutside}
 use Rattle.omega_lang_inclusion.specs.declared.containment.Containment.TheVariants.{Contained, NotContained}
-use Rattle.omega_lang_inclusion.specs.declared.containment.Counterexample.{Counterexample}
+use Rattle.omega_lang_intersection.specs.declared.answer.Example.{Example}
 use Rattle.omega_lang_lasso_word.specs.declared.symbolic_word.SymbolicWord.{SymbolicWord}
 use Rattle.omega_text.specs.hoa.Forms.{IsQuotable}
 use Rattle.omega_text.specs.NamedWords.{NamedWord}
@@ -32,10 +32,10 @@ module _ (word : SymbolicWord) (one a : Description) (means : IsWordAutomaton wo
   strings : HasStringNames word → HasStrings one
   strings names = subst (AllByRecursion IsQuotable) (sym means.propositions) names
 
-  pub counterexample_rejects : (example : Counterexample) → IsContainment one a (NotContained example) → IsMembership word a (Rejected example.word)
+  pub counterexample_rejects : (example : Example) → IsContainment one a (NotContained example) → IsMembership word a (Rejected example.word)
   counterexample_rejects example is = record {
     named = is.word;
-    rejected = outside_rejected is.word is.outside;
-    fits = λ names others. is.fits (strings names) others;
-    all_rejected = λ names others other fits. outside_rejected other (is.all_outside (strings names) others other fits);
+    rejected = outside_rejected is.word is.wanted;
+    fits = λ names others. is.fits (strings names, others);
+    all_rejected = λ names others other fits. outside_rejected other (is.all_wanted (strings names, others) other fits);
   }

@@ -1,22 +1,11 @@
--- Lemmas of containment: words along a lasso, strings, labels and names, the product that is not made, and answers.
--- Lemmas on automata of words: letters, edges, states, runs, membership, and refusals.
-pub mod Along
-pub mod Strings
-pub mod Conjuncts
-pub mod Formulas
-pub mod Naming
-pub mod Standing
-pub mod Made
-pub mod AcceptedWords
-pub mod Paths
-pub mod Texts
-pub mod Lettering
-pub mod Answering
+-- Lemmas of containment, and on automata of words: letters, edges, states, runs, membership, and refusals.
 pub mod Below
+pub mod Common
+pub mod Complementing
 pub mod Edges
 pub mod Going
 pub mod Judging
-pub mod Meeting
+pub mod Members
 pub mod WordLetters
 pub mod Opened
 pub mod Refused

@@ -6,7 +6,7 @@ use Rattle.omega_hoa_automaton.specs.Automaton.{BodyEdge, Description, IsAutomat
 use Rattle.omega_hoa_edges.specs.Conjuncts.{conjuncts, each_once}
 use Rattle.omega_hoa_edges.specs.Labels.{valuation_label}
 use Rattle.omega_hoa_label.specs.Label.{LabelTree}
-use Rattle.omega_lang_inclusion.specs.Containing.{GoesAlong}
+use Rattle.omega_lang_intersection.specs.Intersection.{GoesAlong}
 use Rattle.omega_lang_lasso_search.specs.Searching.{IsSearchable}
 use Rattle.omega_lang_lasso_word.specs.Fitting.{Fits}
 use Rattle.omega_lang_lasso_word.specs.LassoWordText.{lasso_word_text}
@@ -30,14 +30,14 @@ use Rattle.omega_lang_inclusion.specs.private.Choosing.{AcceptCommon}
 use Rattle.omega_lang_inclusion.specs.private.LassoWords.{conjuncts_in, edge_conjuncts, words_along}
 use Rattle.omega_lang_inclusion.proofs.Going.{goes_along}
 use Rattle.omega_lang_inclusion.proofs.Running.{accepted_admits, admitted_accepts, some_letter}
-use Rattle.omega_lang_inclusion.proofs.Texts.{words_alike}
+use Rattle.omega_lang_intersection.proofs.Texts.{words_alike}
 use Rattle.omega_lang_inclusion.proofs.Together.{each_accepted}
 
 module _ (word : SymbolicWord) (one a : Description) (means : IsWordAutomaton word one) (none : ¬ AcceptCommon one a) where
   is_rejected : (named : NamedWord) → AcceptsNamed one named → IsRejected word a named
   is_rejected named accepted = record {
     admitted = accepted_admits word one means named accepted;
-    not_accepted = λ within. none (named, accepted, within);
+    not_accepted = λ within. none (named, record { first = accepted; second = within });
   }
 
   strings : HasStringNames word → HasStrings one

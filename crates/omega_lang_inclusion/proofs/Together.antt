@@ -52,8 +52,8 @@ one_words_together word a one other automaton fixed first second accepted = acce
 -- so all are accepted if one is
 pub all_accepted : (word : SymbolicWord) (one a : Description) → IsWordAutomaton word one → IsAutomaton a → IsOneWordFor word a → AcceptCommon one a
     → AcceptsAdmitted word a
-all_accepted word one a means automaton fixed (named, by_one, by_a) other admitted =
-    accepted_too word a fixed named other (accepted_admits word one means named by_one) admitted automaton by_a
+all_accepted word one a means automaton fixed (named, common) other admitted =
+    accepted_too word a fixed named other (accepted_admits word one means named common.first) admitted automaton common.second
 
 -- words that are all accepted are so whatever is seen of them
 pub each_accepted : (word : SymbolicWord) (a : Description) → AcceptsAdmitted word a → AreAccepted word a

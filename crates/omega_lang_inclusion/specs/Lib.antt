@@ -8,6 +8,7 @@ pub mod Written
 pub mod OneWord
 pub mod Opening
 pub mod Membership
+pub mod SomeWord
 pub mod WordRefusing
 pub mod Laws
 pub use Rattle.omega_text.specs.Cases

@@ -1,7 +1,5 @@
 -- What private contracts alone cite.
 pub mod LassoWords
-pub mod Letters
-pub mod Named
 pub mod Opened
-pub mod Telling
+pub mod Complemented
 pub mod Choosing

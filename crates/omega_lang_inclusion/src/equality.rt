@@ -6,8 +6,9 @@ ghost use Rattle.omega_lang_inclusion.specs.Containing.{IsContainment};
 ghost use Rattle.omega_lang_inclusion.specs.Equality.{AreEquatable, IsEquality, IsEqualityRefusal};
 
 use crate::containing::decide_containment;
-use crate::containment::{Containment, Counterexample};
+use crate::containment::Containment;
 use omega_hoa_automaton::{Automaton, Refusal};
+use omega_lang_intersection::Example;
 use std::alloc::Global;
 
 /// Whether two automata accept the same words.
@@ -15,10 +16,11 @@ use std::alloc::Global;
 pub enum Equality {
     /// They accept the same words.
     Equal,
-    /// The first accepts a word that the second does not accept.
-    OnlyFirst(Counterexample),
-    /// The first accepts no other words than the second, but the second accepts a word that the first does not accept.
-    OnlySecond(Counterexample),
+    /// The first accepts a word that the second does not accept, which this counterexample shows.
+    OnlyFirst(Example),
+    /// The first accepts no other words than the second, but the second accepts a word that the first does not accept,
+    /// which this counterexample shows.
+    OnlySecond(Example),
 }
 
 /// Returns whether two automata, which are to be deterministic, accept the same words. If not, returns a counterexample

@@ -4,7 +4,6 @@
 ghost use Rattle.std.specs.Prelude.{◌≡◌, ◌↔◌, IfErr, IfOk, IsOkUnless, IsTrue, OnOk};
 ghost use Rattle.omega_hoa_automaton.specs.Automaton.{Description, IsAutomaton};
 ghost use Rattle.omega_lang_lasso_search.specs.Searching.{IsSearchRefusal, IsSearchable};
-ghost use Rattle.omega_lang_product.specs.PairGraph.{IsPairGraph};
 ghost use Rattle.omega_lang_product.specs.Refusing.{HaveNoBranch};
 ghost use Rattle.omega_lang_runs.specs.Lasso.{IsAcceptingLasso};
 ghost use Rattle.omega_lang_runs.specs.Verdict.{IsVerdict};
@@ -13,15 +12,14 @@ ghost use Rattle.omega_lang_inclusion.specs.Membership.{IsDecided, IsMembership}
 ghost use Rattle.omega_lang_inclusion.specs.OneWord.{IsOneWordFor};
 ghost use Rattle.omega_lang_inclusion.specs.WordRefusing.{HasChoice, IsMembershipRefusal, IsOneWordRefusal};
 ghost use Rattle.omega_lang_inclusion.specs.Written.{IsWordAutomaton};
-ghost use Rattle.omega_lang_inclusion.specs.private.Choosing.{AcceptCommon, is_lasso};
+ghost use Rattle.omega_lang_inclusion.specs.private.Choosing.{AcceptCommon, is_common};
 
 use crate::lasso_words::words_along;
 use crate::membership::Membership;
 use crate::open_letters::has_open_name;
-use crate::searching::verdict_on;
 use omega_hoa_automaton::{Automaton, Refusal};
+use omega_lang_intersection::{Intersection, intersection};
 use omega_lang_lasso_search::lasso;
-use omega_lang_product::{PairGraph, pair_graph};
 use omega_lang_runs::Verdict;
 use omega_text::TaskFault;
 use std::alloc::Global;
@@ -76,37 +74,19 @@ fn meets(alloc: Global, one: &Automaton, automaton: &Automaton) -> Result<bool, 
     ensures plain { OnOk result (HaveNoBranch one.now automaton.now) }
     ensures refused { IfErr result (IsOneWordRefusal one.now automaton.now) }
 {
-    match pair_graph(alloc, one, automaton) {
-        Ok(graph) => meets_in(alloc, one, automaton, &graph),
+    match intersection(alloc, one, automaton) {
+        Ok(answer) => Ok(is_common(&answer)),
         Err(refusal) => Err(refusal),
     }
 }
 
-/// Whether some word is accepted by both automata, by the graph of their product.
-fn meets_in(
-    alloc: Global,
-    one: &Automaton,
-    automaton: &Automaton,
-    graph: &PairGraph,
-) -> Result<bool, Refusal>
-    requires graph { IsPairGraph one.now automaton.now graph.now }
-    requires plain { HaveNoBranch one.now automaton.now }
-    ensures right { IfOk result (λ found. IsTrue found ↔ AcceptCommon one.now automaton.now) }
-    ensures memory { IsOkUnless result Refusal.Memory }
+/// Whether an answer is words that both automata accept.
+fn is_common(answer: &Intersection) -> bool
+    ensures { result ≡ is_common answer.now }
 {
-    one.keeps_limits();
-    automaton.keeps_limits();
-    let verdict = verdict_on(alloc, graph)?;
-    Ok(is_lasso(&verdict))
-}
-
-/// Whether a verdict is a lasso.
-fn is_lasso(verdict: &Verdict) -> bool
-    ensures { result ≡ is_lasso verdict.now }
-{
-    match verdict {
-        Verdict::Empty => false,
-        Verdict::Lasso { .. } => true,
+    match answer {
+        Intersection::Empty => false,
+        Intersection::Common(_example) => true,
     }
 }
 

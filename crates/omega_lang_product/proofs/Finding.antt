@@ -4,6 +4,7 @@ use Rattle.std.specs.Prelude.{sum_by}
 use Rattle.std.specs.List.{flat_map}
 use Rattle.std.proofs.lemmas.Grind.{flat_map-append}
 use Rattle.std.proofs.lemmas.List.{get_or-append-add, get_or_append_left, get_or_default, length-append, length-map, take_all}
+use Rattle.std.proofs.lemmas.List.Sums.{sum_by-take-le}
 use Rattle.indexmap.specs.IndexSet.{insert_all}
 use Rattle.omega_graph.specs.Graph.{edge_of}
 use Rattle.omega_hoa_automaton.specs.Automaton.{Description}
@@ -18,7 +19,7 @@ use Rattle.omega_lang_product.specs.private.Operands.{HaveRows, Reaches}
 use Rattle.omega_lang_product.specs.declared.joint_edges.JointEdges.{JointEdges}
 use Rattle.omega_lang_product.specs.declared.tables.Tables.{Tables}
 use Rattle.omega_lang_product.proofs.Crossing.{all_edges}
-use Rattle.omega_lang_product.proofs.Reaching.{Extended, IsUnderWay, append_nil, begun, extends_by, found_so_far, gone_on, taken_before, taken_more}
+use Rattle.omega_lang_product.proofs.Reaching.{Extended, IsUnderWay, append_nil, begun, extends_by, gone_on, taken_before, taken_more}
 
 module _ (one other : Description) where
   -- how many edges leave a pair
@@ -86,9 +87,8 @@ module _ (one other : Description) where
     pub many_now : most_edges < length next.ends.items → HasManyEdges one other
     many_now many = record {
       pairs = more;
-      done = at + 1;
-      found = found_so_far one other more (at + 1) way_more;
-      many = omega (arith, many, edges_counted more (at + 1) next edges_now);
+      reachable = way_more.reachable;
+      many = omega (arith, many, edges_counted more (at + 1) next edges_now, sum_by-take-le leaving more (at + 1));
     }
 
     counted_now : (n : ℕ) → n ≡ length next.ends.items → AreCounted more (at + 1) (past ++ n ∷ [])

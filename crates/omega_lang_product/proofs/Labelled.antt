@@ -13,9 +13,9 @@ use Rattle.omega_hoa_syntax.specs.declared.raw_edge.RawEdge.{RawEdge}
 use Rattle.omega_hoa_automaton.specs.Automaton.{Description}
 use Rattle.omega_lang_product.specs.JointEdges.{AreJoints, Joint, Numbered, joint_of, joints_between, joints_with, marks_of_both, numbered_from, numbered_partners}
 use Rattle.omega_lang_product.specs.PairGraph.{edges_before, first_numbered, joints_at, joints_of, second_numbered}
-use Rattle.omega_lang_product.specs.Pairs.{AreReached, Pair, can_meet, first_leaving, pair_number, partners, second_leaving, targets_of}
+use Rattle.omega_lang_product.specs.Pairs.{Pair, can_meet, first_leaving, pair_number, partners, second_leaving, targets_of}
 use Rattle.omega_lang_product.specs.Product.{joint_edges_of, joint_transitions, taken_together}
-use Rattle.omega_lang_product.specs.Refusing.{HasDeepMeeting}
+use Rattle.omega_lang_product.specs.Refusing.{AreReachable, HasDeepMeeting}
 use Rattle.omega_lang_product.specs.declared.joint_edges.JointEdges.{JointEdges}
 use Rattle.omega_lang_product.specs.declared.row.Row.{Row}
 use Rattle.omega_lang_product.specs.Written.{raw_edge}
@@ -25,7 +25,6 @@ use Rattle.omega_lang_product.specs.private.Labelling.{AreJointsFrom, HasDeepLab
 use Rattle.omega_lang_product.proofs.Crossing.{all_edges, pair_edges}
 use Rattle.omega_lang_product.proofs.Formulas.{same_default}
 use Rattle.omega_lang_product.proofs.Membership.{Contains-cases, Contains-nothing}
-use Rattle.omega_lang_product.proofs.Reaching.{found_all}
 
 -- joint edges with their labels are the edges of the product
 labelled_with : (pairs : List Pair) (from m n : ℕ) (t : Transition) (us : List Transition)
@@ -214,8 +213,8 @@ module _ (one other : Description) (pairs : List Pair) (at : ℕ) (below : at < 
       labelled_all pairs (pair_number pairs (get_or pairs at (0, 0))) (edges_before one.defined (get_or pairs at (0, 0)).0) (edges_before other.defined (get_or pairs at (0, 0)).1)
       (first_leaving one other (get_or pairs at (0, 0))) (second_leaving one other (get_or pairs at (0, 0)))
 
-  pub deep_meeting_of : AreReached one other pairs → HasDeepLabel (joints_at one other pairs (get_or pairs at (0, 0))) → HasDeepMeeting one other
-  deep_meeting_of reached has =
+  pub deep_meeting_of : AreReachable one other pairs → HasDeepLabel (joints_at one other pairs (get_or pairs at (0, 0))) → HasDeepMeeting one other
+  deep_meeting_of reachable has =
       let is_made = made has.joint has.listed in
       let first = transition_listed (edges_before one.defined (get_or pairs at (0, 0)).0) (first_leaving one other (get_or pairs at (0, 0))) has.joint.first is_made.first in
       let second = transition_listed (edges_before other.defined (get_or pairs at (0, 0)).1) (second_leaving one other (get_or pairs at (0, 0))) has.joint.second is_made.second in
@@ -224,12 +223,7 @@ module _ (one other : Description) (pairs : List Pair) (at : ℕ) (below : at < 
         partner = has.joint.second.transition;
         met = record {
           pair = get_or pairs at (0, 0);
-          found = record {
-            pairs = pairs;
-            done = length pairs;
-            found = found_all one other pairs reached;
-            listed = (at, below, same_default pairs at (get_or pairs at (0, 0)) (0, 0) below);
-          };
+          reachable = reachable.each (get_or pairs at (0, 0)) (at, below, same_default pairs at (get_or pairs at (0, 0)) (0, 0) below);
           first = first;
           second = second;
         };

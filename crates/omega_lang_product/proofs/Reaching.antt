@@ -2,12 +2,14 @@
 use Rattle.std.proofs.Common.{◌≡◌, ℕ, ◌+◌, ◌<◌, ◌≤◌, ◌⊎◌, inl, inr, Bool, true, false, not, cond, ◌&&◌, ◌||◌, if◌then◌else◌, List, [], ◌∷◌, ◌++◌, length, take, get_or, Contains, refl, sym, ap, ap₂, subst, ◌∙◌, arith, append_assoc, eq-eqb, true≢false}
 use Rattle.std.specs.List.{flat_map, list_any, position_or_len}
 use Rattle.std.proofs.lemmas.Grind.{flat_map-append}
+use Rattle.std.proofs.lemmas.List.Elements.{Contains-append_cases}
 use Rattle.std.proofs.lemmas.List.{length-append, take-append-le, take_all, take_more}
 use Rattle.indexmap.specs.IndexSet.{insert_all, insert_key}
-use Rattle.omega_hoa_automaton.specs.Automaton.{Description}
+use Rattle.omega_hoa_automaton.specs.Automaton.{Description, has_repeat}
 use Rattle.omega_hoa_edges.specs.Limits.{most_states}
-use Rattle.omega_lang_product.specs.Pairs.{AreFound, AreReached, Pair, found_after, pair_number, same_pair, start_pairs, targets_of}
-use Rattle.omega_lang_product.proofs.Membership.{Contains-cases, Contains-nothing}
+use Rattle.omega_lang_product.specs.Pairs.{AreReached, Pair, found_after, pair_number, same_pair, start_pairs, targets_of}
+use Rattle.omega_lang_product.specs.Refusing.{AreReachable, IsReachable, start, step}
+use Rattle.omega_lang_product.proofs.Membership.{Contains-cases, Contains-here, Contains-nothing, Contains-there}
 
 pub append_nil : {X : Type 0} (xs : List X) → xs ++ [] ≡ xs
 append_nil [] = refl
@@ -99,12 +101,65 @@ extended_number ks more later pair extended listed =
     let same : more ++ later ≡ ks ++ (extended.extra ++ later) = ap (λ (s : List Pair). s ++ later) extended.is ∙ append_assoc ks extended.extra later in
     ap (λ (all : List Pair). pair_number all pair) same ∙ found_number ks (extended.extra ++ later) pair listed
 
+-- what is inserted was there or comes from the others
+key_from : (ks : List Pair) (k pair : Pair) → Contains (insert_key same_pair ks k) pair → Contains ks pair ⊎ (k ≡ pair)
+key_from ks k pair listed = go (list_any (same_pair k) ks) refl
+  where
+    go : (b : Bool) → list_any (same_pair k) ks ≡ b → Contains ks pair ⊎ (k ≡ pair)
+    go true e = inl (subst (λ b. Contains (if b then ks else ks ++ k ∷ []) pair) e listed)
+    go false e =
+        elim (Contains-append_cases ks (k ∷ []) pair (subst (λ b. Contains (if b then ks else ks ++ k ∷ []) pair) e listed)) [
+          | inl old ↦ inl old
+          | inr new ↦ elim (Contains-cases k pair [] new) [
+            | inl is ↦ inr is
+            | inr none ↦ absurd (Contains-nothing pair none)
+          ]
+        ]
+
+pub inserted_from : (xs ks : List Pair) (pair : Pair) → Contains (insert_all same_pair ks xs) pair → Contains ks pair ⊎ Contains xs pair
+inserted_from [] ks pair listed = inl listed
+inserted_from (x ∷ xs) ks pair listed = elim (inserted_from xs (insert_key same_pair ks x) pair listed) [
+  | inl first ↦ elim (key_from ks x pair first) [
+    | inl old ↦ inl old
+    | inr is ↦ inr (subst (Contains (x ∷ xs)) is (Contains-here x xs))
+  ]
+  | inr later ↦ inr (Contains-there x pair xs later)
+]
+
+-- and is different from what was there
+one_of_neither : (b c : Bool) → (b || c) ≡ false → (b ≡ false) × (c ≡ false)
+one_of_neither true c e = absurd (true≢false e)
+one_of_neither false c e = (refl, e)
+
+none_more : (test : Pair → Bool) (ks : List Pair) (k : Pair) → list_any test ks ≡ false → test k ≡ false → list_any test (ks ++ k ∷ []) ≡ false
+none_more test [] k none last = ap (λ b. b || false) last
+none_more test (x ∷ ks) k none last =
+    let parts = one_of_neither (test x) (list_any test ks) none in
+    ap₂ ◌||◌ parts.0 (none_more test ks k parts.1 last)
+
+apart_more : (ks : List Pair) (k : Pair) → has_repeat same_pair ks ≡ false → list_any (same_pair k) ks ≡ false → has_repeat same_pair (ks ++ k ∷ []) ≡ false
+apart_more [] k apart none = refl
+apart_more (x ∷ ks) k apart none =
+    let test : Pair → Bool = λ earlier. same_pair earlier x in
+    let parts = one_of_neither (list_any test ks) (has_repeat same_pair ks) apart in
+    let others = one_of_neither (same_pair k x) (list_any (same_pair k) ks) none in
+    ap₂ ◌||◌ (none_more test ks k parts.0 others.0) (apart_more ks k parts.1 others.1)
+
+pub inserted_apart : (xs ks : List Pair) → has_repeat same_pair ks ≡ false → has_repeat same_pair (insert_all same_pair ks xs) ≡ false
+inserted_apart [] ks apart = apart
+inserted_apart (x ∷ xs) ks apart = inserted_apart xs (insert_key same_pair ks x) (go (list_any (same_pair x) ks) refl)
+  where
+    go : (b : Bool) → list_any (same_pair x) ks ≡ b → has_repeat same_pair (insert_key same_pair ks x) ≡ false
+    go true e = ap (λ b. has_repeat same_pair (if b then ks else ks ++ x ∷ [])) e ∙ apart
+    go false e = ap (λ b. has_repeat same_pair (if b then ks else ks ++ x ∷ [])) e ∙ apart_more ks x apart e
+
 -- the search after `done` pairs were expanded
 pub record IsUnderWay (one other : Description) (pairs : List Pair) (at : ℕ) : Type 0 where
   pub reached : pairs ≡ found_after one other (take at pairs)
   pub each : (k : ℕ) → k < at → k < length (found_after one other (take k pairs))
   pub within : at ≤ length pairs
   pub few : at ≤ most_states
+  pub reachable : AreReachable one other pairs
 
 pub begun : (one other : Description) (pairs : List Pair) → pairs ≡ insert_all same_pair [] (start_pairs one other) → IsUnderWay one other pairs 0
 begun one other pairs is = record {
@@ -112,6 +167,13 @@ begun one other pairs is = record {
   each = λ k below. absurd (omega arith);
   within = omega arith;
   few = omega arith;
+  reachable = record {
+    apart = ap (has_repeat same_pair) is ∙ inserted_apart (start_pairs one other) [] refl;
+    each = λ pair listed. elim (inserted_from (start_pairs one other) [] pair (subst (λ (ps : List Pair). Contains ps pair) is listed)) [
+      | inl none ↦ absurd (Contains-nothing pair none)
+      | inr begins ↦ start pair begins
+    ];
+  };
 }
 
 -- the pairs that were expanded, one more
@@ -139,13 +201,20 @@ gone_on one other pairs more at pair way below here few is =
           ∙ ap (insert_all same_pair []) (append_assoc (start_pairs one other) (flat_map (targets_of one other) (take at pairs)) (targets_of one other pair))
           ∙ ap (λ (ts : List Pair). insert_all same_pair [] (start_pairs one other ++ ts)) (sym targets)
           ∙ ap (found_after one other) (sym done);
-      each = λ k least. step k least (same k (omega arith));
+      each = λ k least. found_at k least (same k (omega arith));
       within = omega (arith, ap length long, length-append pairs extended.extra);
       few = omega arith;
+      reachable = record {
+        apart = ap (has_repeat same_pair) is ∙ inserted_apart (targets_of one other pair) pairs way.reachable.apart;
+        each = λ to listed. elim (inserted_from (targets_of one other pair) pairs to (subst (λ (ps : List Pair). Contains ps to) is listed)) [
+          | inl old ↦ way.reachable.each to old
+          | inr led ↦ step pair to (way.reachable.each pair (at, below, sym here)) led
+        ];
+      };
     }
   where
-    step : (k : ℕ) → k < at + 1 → take k more ≡ take k pairs → k < length (found_after one other (take k more))
-    step k least e = go (last k least)
+    found_at : (k : ℕ) → k < at + 1 → take k more ≡ take k pairs → k < length (found_after one other (take k more))
+    found_at k least e = go (last k least)
       where
         last : (k : ℕ) → k < at + 1 → (k < at) ⊎ (k ≡ at)
         last k least = grind arith
@@ -165,11 +234,3 @@ done_with one other pairs at way past =
       found = λ k below. way.each k (omega arith);
       all = way.reached ∙ ap (found_after one other) (take_all at pairs past);
     }
-
--- what is found so far, and in the end
-pub found_so_far : (one other : Description) (pairs : List Pair) (at : ℕ) → IsUnderWay one other pairs at → AreFound one other at pairs
-found_so_far one other pairs at way = record { found = way.each; all = way.reached }
-
-pub found_all : (one other : Description) (pairs : List Pair) → AreReached one other pairs → AreFound one other (length pairs) pairs
-found_all one other pairs reached =
-    record { found = reached.found; all = reached.all ∙ ap (found_after one other) (sym (take_all (length pairs) pairs (omega arith))) }

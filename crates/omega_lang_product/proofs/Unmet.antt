@@ -9,8 +9,8 @@ use Rattle.omega_hoa_label.specs.Shape.{FitsALabel}
 use Rattle.omega_hoa_satisfiable.specs.Undecided.{IsHardLabel}
 use Rattle.omega_hoa_automaton.specs.Automaton.{Description}
 use Rattle.omega_hoa_edges.specs.Fitting.{IsUnjudged}
-use Rattle.omega_lang_product.specs.Pairs.{AreFound, Pair, first_leaving, second_leaving}
-use Rattle.omega_lang_product.specs.Refusing.{AreMet, HasUnfitAt, IsFoundPair, IsGraphTooLarge, unfit_label, unfit_meeting}
+use Rattle.omega_lang_product.specs.Pairs.{Pair, first_leaving, second_leaving}
+use Rattle.omega_lang_product.specs.Refusing.{AreMet, HasUnfitAt, IsGraphTooLarge, IsReachable, unfit_label, unfit_meeting}
 use Rattle.omega_lang_product.specs.private.Faults.{IsGraphFault}
 use Rattle.omega_lang_product.specs.private.Meeting.{HasUnmet, HasUnmetPartner, IsUnmet}
 use Rattle.omega_lang_product.specs.declared.transition.Transition.{Transition}
@@ -34,13 +34,10 @@ edge_unmet transitions others transition listed refusal h =
     (λ fault partner. record { transition = transition; listed = listed; partner = partner }) refusal h
 
 -- edges that leave a pair which is reached
-module _ (one other : Description) (pairs : List Pair) (done : ℕ) (found : AreFound one other done pairs) (pair : Pair) (reached : Contains pairs pair) where
-  found_pair : IsFoundPair one other pair
-  found_pair = record { pairs = pairs; done = done; found = found; listed = reached }
-
+module _ (one other : Description) (pair : Pair) (reachable : IsReachable one other pair) where
   met : (fault : TaskFault) (unmet : HasUnmet (first_leaving one other pair) (second_leaving one other pair) fault)
       → AreMet one other unmet.transition unmet.partner.other
-  met fault unmet = record { pair = pair; found = found_pair; first = unmet.listed; second = unmet.partner.listed }
+  met fault unmet = record { pair = pair; reachable = reachable; first = unmet.listed; second = unmet.partner.listed }
 
   join_fault : (fault : TaskFault) → HasUnmet (first_leaving one other pair) (second_leaving one other pair) fault → IsGraphFault one other fault
   join_fault NotParity unmet = unmet.partner.unmet
@@ -63,7 +60,7 @@ module _ (one other : Description) (pairs : List Pair) (done : ℕ) (found : Are
 
   -- an edge that leaves a state of the pair and has a label that is too deep or too large
   pub unfit_pair : HasUnfitAt one other pair → IsGraphTooLarge one other
-  unfit_pair edge = unfit_label (record { pair = pair; found = found_pair; edge = edge })
+  unfit_pair edge = unfit_label (record { pair = pair; reachable = reachable; edge = edge })
 
 -- two edges whose labels together are not judged
 pub unjudged_unmet : (transition other : Transition) (label : LabelTree) → label ≡ conjunction transition.label other.label → (refusal : Refusal)

@@ -90,12 +90,6 @@ abbrev pub found_after : Description → Description → List Pair → List Pair
 found_after one other done =
     with_pairs [] (start_pairs one other ++ flat_map (targets_of one other) done)
 
--- the state of the breadth-first search after `done` pairs were expanded: each of these was found by expanding those
--- before it
-pub record AreFound (one other : Description) (done : ℕ) (pairs : List Pair) : Type 0 where
-  pub found : (k : ℕ) → k < done → k < length (found_after one other (take k pairs))
-  pub all : pairs ≡ found_after one other (take done pairs)
-
 -- the reachable pairs, as the least fixed point of expanding, in the order of the queue: each is found by expanding
 -- those before it, and expanding all finds no other
 pub record AreReached (one other : Description) (pairs : List Pair) : Type 0 where

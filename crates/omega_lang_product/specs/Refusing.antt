@@ -2,7 +2,7 @@
 -- two labels can hold together, or `TooLarge` if a limit would be passed, or want of memory. A graph has no labels, and
 -- no text is made of it: limits of these refuse the product alone.
 use Rattle.std.specs.Prelude.{◌≡◌, ◌<◌, ◌⊎◌, ℕ, ◌+◌, ◌||◌, true, false, List}
-use Rattle.std.specs.Prelude.{length, take, Contains, Some, sum_by}
+use Rattle.std.specs.Prelude.{length, Contains, Some, sum_by}
 use Rattle.omega_text.specs.Cases.{never, or_memory, or_task}
 use Rattle.omega_text.specs.Limits.{most_number}
 use Rattle.omega_text.specs.declared.refusal.Refusal.{Refusal}
@@ -20,15 +20,15 @@ use Rattle.omega_hoa_label.specs.Writing.{label_written}
 use Rattle.omega_hoa_edges.specs.Conjuncts.{joined}
 use Rattle.omega_hoa_satisfiable.specs.Undecided.{IsHardLabel}
 use Rattle.omega_hoa_label.specs.Shape.{FitsALabel}
-use Rattle.omega_hoa_automaton.specs.Automaton.{Description}
+use Rattle.omega_hoa_automaton.specs.Automaton.{Description, has_repeat}
 use Rattle.omega_hoa_automaton.specs.Branching.{has_universal_branching}
 use Rattle.omega_hoa_automaton.specs.Faults.{automaton_fault_of}
 use Rattle.omega_hoa_automaton.specs.Limits.{most_propositions}
-use Rattle.omega_lang_product.specs.Acceptance.{AreBuchi, conjoined_acceptance}
+use Rattle.omega_lang_product.specs.Acceptance.{conjoined_acceptance}
 use Rattle.omega_lang_product.specs.Joining.{joined_names}
 use Rattle.omega_lang_product.specs.Limits.{most_joint_sets}
-use Rattle.omega_lang_product.specs.Pairs.{AreFound, Pair, can_meet, first_leaving}
-use Rattle.omega_lang_product.specs.Pairs.{second_leaving, targets_of}
+use Rattle.omega_lang_product.specs.Pairs.{Pair, can_meet, first_leaving, same_pair}
+use Rattle.omega_lang_product.specs.Pairs.{second_leaving, start_pairs, targets_of}
 use Rattle.omega_lang_product.specs.Written.{IsWrittenProduct}
 use Rattle.omega_lang_product.specs.declared.transition.Transition.{Transition}
 use Rattle.omega_hoa_syntax.specs.declared.raw_automaton.RawAutomaton.{RawAutomaton}
@@ -38,17 +38,21 @@ use Rattle.omega_hoa_edges.specs.Limits.{most_edges, most_states}
 abbrev pub HaveNoBranch : Description → Description → Type 0
 HaveNoBranch one other = (has_universal_branching one || has_universal_branching other) ≡ false
 
--- a pair that a search of the reachable ones has found
-pub record IsFoundPair (one other : Description) (pair : Pair) : Type 0 where
-  pub pairs : List Pair
-  pub done : ℕ
-  pub found : AreFound one other done pairs
-  pub listed : Contains pairs pair
+-- a reachable pair: a pair of starts, or one that two edges lead to from a reachable pair, which can be taken together
+pub data IsReachable (one other : Description) : Pair → Type 0 where
+  start : (pair : Pair) → Contains (start_pairs one other) pair → IsReachable one other pair
+  step : (from to : Pair) → IsReachable one other from → Contains (targets_of one other from) to
+      → IsReachable one other to
+
+-- different pairs, each reachable
+pub record AreReachable (one other : Description) (pairs : List Pair) : Type 0 where
+  pub apart : has_repeat same_pair pairs ≡ false
+  pub each : (pair : Pair) → Contains pairs pair → IsReachable one other pair
 
 -- an edge of the first and one of the second, which leave the two states of a reachable pair
 pub record AreMet (one other : Description) (transition partner : Transition) : Type 0 where
   pub pair : Pair
-  pub found : IsFoundPair one other pair
+  pub reachable : IsReachable one other pair
   pub first : Contains (first_leaving one other pair) transition
   pub second : Contains (second_leaving one other pair) partner
 
@@ -92,32 +96,20 @@ HasUnfitAt one other pair =
 -- an edge that leaves a state of a reachable pair has such a label
 pub record HasUnfitLabel (one other : Description) : Type 0 where
   pub pair : Pair
-  pub found : IsFoundPair one other pair
+  pub reachable : IsReachable one other pair
   pub edge : HasUnfitAt one other pair
-
--- the acceptance is the conjunction of both, and is too deep
-pub record HasDeepFormula (one other : Description) : Type 0 where
-  pub others : AreBuchi one other → ⊥
-  pub deep : most_depth < acc_depth (conjoined_acceptance one other)
-
--- the acceptance is the conjunction of both, and is too deep as it is written
-pub record HasDeepAcceptance (one other : Description) : Type 0 where
-  pub others : AreBuchi one other → ⊥
-  pub deep : most_depth < raw_acc_depth (acc_written (conjoined_acceptance one other))
 
 -- more pairs are reachable than a product may have states
 pub record HasManyPairs (one other : Description) : Type 0 where
   pub pairs : List Pair
-  pub done : ℕ
-  pub found : AreFound one other done pairs
+  pub reachable : AreReachable one other pairs
   pub many : most_states < length pairs
 
--- more edges leave the pairs that were expanded than a product may have
+-- more edges leave reachable pairs than a product may have
 pub record HasManyEdges (one other : Description) : Type 0 where
   pub pairs : List Pair
-  pub done : ℕ
-  pub found : AreFound one other done pairs
-  pub many : most_edges < sum_by (λ pair. length (targets_of one other pair)) (take done pairs)
+  pub reachable : AreReachable one other pairs
+  pub many : most_edges < sum_by (λ pair. length (targets_of one other pair)) pairs
 
 -- the product, as it is written, breaks a limit of automata
 pub record BreaksLimit (one other : Description) : Type 0 where
@@ -131,7 +123,7 @@ pub data IsGraphTooLarge (one other : Description) : Type 0 where
   many_joint_sets : most_joint_sets < one.sets + other.sets → IsGraphTooLarge one other
   many_names : most_propositions < length (joined_names one.propositions other.propositions)
       → IsGraphTooLarge one other
-  deep_formula : HasDeepFormula one other → IsGraphTooLarge one other
+  deep_formula : most_depth < acc_depth (conjoined_acceptance one other) → IsGraphTooLarge one other
   unfit_label : HasUnfitLabel one other → IsGraphTooLarge one other
   unfit_meeting : HasUnfitMeeting one other → IsGraphTooLarge one other
   many_pairs : HasManyPairs one other → IsGraphTooLarge one other
@@ -141,7 +133,8 @@ pub data IsGraphTooLarge (one other : Description) : Type 0 where
 pub data IsProductTooLarge (one other : Description) : Type 0 where
   large_graph : IsGraphTooLarge one other → IsProductTooLarge one other
   many_sets : most_number < one.sets + other.sets → IsProductTooLarge one other
-  deep_acceptance : HasDeepAcceptance one other → IsProductTooLarge one other
+  deep_acceptance : most_depth < raw_acc_depth (acc_written (conjoined_acceptance one other))
+      → IsProductTooLarge one other
   deep_meeting : HasDeepMeeting one other → IsProductTooLarge one other
   broken_limit : BreaksLimit one other → IsProductTooLarge one other
 

@@ -10,7 +10,6 @@ ghost use Rattle.omega_lang_product.specs.Acceptance.{AreBuchi, both_formulas as
 ghost use Rattle.omega_lang_product.specs.Acceptance.{buchi_name as name_of_buchi};
 ghost use Rattle.omega_lang_product.specs.Acceptance.{conjoined_acceptance, is_true as is_always};
 ghost use Rattle.omega_hoa_edges.specs.Fitting.{IsLarge};
-ghost use Rattle.omega_lang_product.specs.Refusing.{HasDeepAcceptance};
 ghost use Rattle.omega_lang_product.specs.Written.{IsAcceptanceWritten};
 
 use crate::buchi::are_buchi;
@@ -38,7 +37,8 @@ pub(crate) fn joint_acceptance(
 ) -> Result<WrittenAcceptance, Refusal>
     ensures ok { IfOk result
         (λ written. IsAcceptanceWritten one.now other.now written.name written.formula) }
-    ensures err { IfErr result (IsLarge (HasDeepAcceptance one.now other.now)) }
+    ensures err { IfErr result
+        (IsLarge (most_depth < raw_acc_depth (acc_written (conjoined_acceptance one.now other.now)))) }
 {
     if are_buchi(one, other) {
         buchi_of_both(alloc, one, other)

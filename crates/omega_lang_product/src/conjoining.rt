@@ -1,11 +1,11 @@
 //! The acceptance formula of a product.
 
-ghost use Rattle.std.specs.Prelude.{◌≡◌, ◌+◌, ◌≤◌, IfErr, IfOk, IsOkUnless};
+ghost use Rattle.std.specs.Prelude.{◌≡◌, ◌+◌, ◌<◌, ◌≤◌, IfErr, IfOk, IsOkUnless};
 ghost use Rattle.omega_hoa_expression.specs.Limits.{most_depth};
+ghost use Rattle.omega_hoa_acceptance.specs.Acceptance.{acc_depth};
 ghost use Rattle.omega_hoa_acceptance.specs.Kind.{buchi_formula};
 ghost use Rattle.omega_hoa_edges.specs.Fitting.{IsLarge};
-ghost use Rattle.omega_lang_product.specs.Acceptance.{AreBuchi, IsJointFormula};
-ghost use Rattle.omega_lang_product.specs.Refusing.{HasDeepFormula};
+ghost use Rattle.omega_lang_product.specs.Acceptance.{AreBuchi, IsJointFormula, conjoined_acceptance};
 
 use crate::acceptance::conjunction;
 use crate::buchi::are_buchi;
@@ -22,7 +22,8 @@ pub(crate) fn joint_formula(
     other: &Automaton,
 ) -> Result<Acc, Refusal>
     ensures ok { IfOk result (IsJointFormula one.now other.now) }
-    ensures err { IfErr result (IsLarge (HasDeepFormula one.now other.now)) }
+    ensures err { IfErr result
+        (IsLarge (most_depth < acc_depth (conjoined_acceptance one.now other.now))) }
 {
     if are_buchi(one, other) {
         recurring_in_both(alloc, one, other)

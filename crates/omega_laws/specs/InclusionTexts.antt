@@ -12,6 +12,7 @@ use Rattle.omega_lang_word_text.specs.Text.{IsWordText}
 use Rattle.omega_text.specs.NamedWords.{IsPeriodic, NamedWord}
 use Rattle.omega_lang_inclusion.specs.OneWord.{IsOneWordFor}
 use Rattle.omega_answers_inclusion.specs.Accepts.{IsAcceptsAnswer}
+use Rattle.omega_answers_inclusion.specs.AcceptsSome.{IsAcceptsSomeAnswer}
 use Rattle.omega_answers_inclusion.specs.Contained.{IsContainedAnswer}
 use Rattle.omega_answers_inclusion.specs.Equal.{IsEqualAnswer}
 use Rattle.omega_laws.specs.TextWords.{AcceptsWordsOf, TextAccepts}
@@ -71,6 +72,22 @@ abbrev pub SaysAccepted : (word text : List ℕ) (explain : Bool) → Exit → L
 SaysAccepted word text explain Done output = AcceptsFitting word text
 SaysAccepted word text explain No output = TellsRejected word text explain output
 
+-- words show that a text accepts what the text of a word admits, and the output ends in them if an explanation is asked
+-- for
+pub record TellsAccepted (word text : List ℕ) (explain : Bool) (output : List ℕ) : Type 0 where
+  pub symbolic : SymbolicWord
+  pub read : IsWordText word symbolic
+  pub words : List ℕ
+  pub fitting : NamedWord
+  pub fits : Fits words fitting
+  pub accepted : (named : NamedWord) → Fits words named → Admits symbolic named × TextAccepts text named
+  pub told : explain ≡ true → EndsInWord output words
+
+-- what an answer of `accepts --some` says: words that the text accepts, or that it accepts none that fits
+abbrev pub SaysSomeAccepted : (word text : List ℕ) (explain : Bool) → Exit → List ℕ → Type 0
+SaysSomeAccepted word text explain Done output = TellsAccepted word text explain output
+SaysSomeAccepted word text explain No output = (named : NamedWord) → Fits word named → ¬ TextAccepts text named
+
 -- each answer says so
 abbrev pub ContainedTextsAreContained : Type 0
 ContainedTextsAreContained = (file input : List ℕ) (explain : Bool) (exit : Exit) (output : List ℕ)
@@ -83,3 +100,7 @@ EqualTextsAreEqual = (file input : List ℕ) (explain : Bool) (exit : Exit) (out
 abbrev pub AcceptedTextsAreAccepted : Type 0
 AcceptedTextsAreAccepted = (word text : List ℕ) (explain : Bool) (exit : Exit) (output : List ℕ)
     → IsAcceptsAnswer word text explain exit output → SaysAccepted word text explain exit output
+
+abbrev pub SomeTextsAreAccepted : Type 0
+SomeTextsAreAccepted = (word text : List ℕ) (explain : Bool) (exit : Exit) (output : List ℕ)
+    → IsAcceptsSomeAnswer word text explain exit output → SaysSomeAccepted word text explain exit output

@@ -3,6 +3,7 @@
 
 ghost use Rattle.omega_laws.specs.InclusionTexts.{AcceptedTextsAreAccepted};
 ghost use Rattle.omega_laws.specs.InclusionTexts.{ContainedTextsAreContained, EqualTextsAreEqual};
+ghost use Rattle.omega_laws.specs.InclusionTexts.{SomeTextsAreAccepted};
 
 use omega_hoa::automata_are_one;
 use omega_hoa_round_trips::read_automata_are_writable;
@@ -35,6 +36,19 @@ pub fn equal_texts_are_equal()
 /// letter fixes each proposition of the automaton.
 pub fn accepted_texts_are_accepted()
     ensures { AcceptedTextsAreAccepted }
+{
+    automata_are_one();
+    read_automata_are_writable();
+    fitting_texts_are_read();
+    names_are_strings();
+    words_of_texts_are_one();
+}
+
+/// Shows what `accepts --some` answers of the text of a word and of that of an automaton: `yes` only if there are words
+/// that are admitted and accepted, in which the answer ends with an explanation, and `no` only if none that fits the
+/// text of the word is accepted. Neither has a premise.
+pub fn some_texts_are_accepted()
+    ensures { SomeTextsAreAccepted }
 {
     automata_are_one();
     read_automata_are_writable();

@@ -29,6 +29,7 @@ pub use containment::{empty_means_contained, lassos_mean_not_contained, met_text
 pub use controller_texts::controllers_are_read_back;
 pub use inclusion_texts::{
     accepted_texts_are_accepted, contained_texts_are_contained, equal_texts_are_equal,
+    some_texts_are_accepted,
 };
 pub use lifted_answers::lifted_answers_end;
 pub use omega_lang_word_laws::{

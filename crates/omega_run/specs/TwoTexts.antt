@@ -2,7 +2,7 @@
 -- of them a refusal is about.
 use Rattle.std.specs.Prelude.{◌≡◌, ◌⊎◌, Bool, true, false, List, ℕ, codes}
 use Rattle.omega_cli_command.specs.declared.two_texts.TwoTexts.{TwoTexts}
-use Rattle.omega_cli_command.specs.declared.two_texts.TwoTexts.TheVariants.{Accepts, Contained}
+use Rattle.omega_cli_command.specs.declared.two_texts.TwoTexts.TheVariants.{Accepts, AcceptsSome, Contained}
 use Rattle.omega_cli_command.specs.declared.two_texts.TwoTexts.TheVariants.{ContainedStream, DrawSolution}
 use Rattle.omega_cli_command.specs.declared.two_texts.TwoTexts.TheVariants.{DrawWalk, Equal, Join, Meet}
 use Rattle.omega_cli_command.specs.declared.two_texts.TwoTexts.TheVariants.{Verify, VerifyController}
@@ -22,6 +22,7 @@ use Rattle.omega_answers_game.specs.Draw.{IsSolutionDrawingAnswer}
 use Rattle.omega_answers_game.specs.Verify.{IsJudgedGameRefusal, IsVerifyAnswer, RefusesSolution}
 use Rattle.omega_answers_game.specs.Winners.{IsWinnersAnswer, IsWinnersGameRefusal, RefusesWinners}
 use Rattle.omega_answers_inclusion.specs.Accepts.{IsAcceptsAnswer, IsAcceptsRefused}
+use Rattle.omega_answers_inclusion.specs.AcceptsSome.{IsAcceptsSomeAnswer, IsAcceptsSomeRefused}
 use Rattle.omega_answers_inclusion.specs.Contained.{IsContainedAnswer, IsContainedRefused}
 use Rattle.omega_answers_inclusion.specs.Equal.{IsEqualAnswer, IsEqualRefused}
 use Rattle.omega_answers_stream_questions.specs.Contained as stream
@@ -50,6 +51,7 @@ AnswersTwoTexts (VerifyLasso explain) other input = IsLassoAnswer other input ex
 AnswersTwoTexts (VerifyController explain) other input =
     IsControllerAnswer other input explain
 AnswersTwoTexts (Accepts explain) other input = IsAcceptsAnswer other input explain
+AnswersTwoTexts (AcceptsSome explain) other input = IsAcceptsSomeAnswer other input explain
 AnswersTwoTexts (Meet false) other input = IsDoneWith (IsMeetAnswer other input)
 AnswersTwoTexts (Meet true) other input = IsDoneWith (IsMeetTrimmedAnswer other input)
 AnswersTwoTexts Join other input = IsDoneWith (IsJoinAnswer other input)
@@ -76,6 +78,8 @@ name_of (VerifyController explain) File = codes "specification"
 name_of (VerifyController explain) Input = codes "controller"
 name_of (Accepts explain) File = codes "word"
 name_of (Accepts explain) Input = codes "automaton"
+name_of (AcceptsSome explain) File = codes "word"
+name_of (AcceptsSome explain) Input = codes "automaton"
 name_of (Meet trim) File = codes "other automaton"
 name_of (Meet trim) Input = codes "automaton"
 name_of Join File = codes "other automaton"
@@ -102,6 +106,7 @@ RefusesTwoTexts (VerifyWinners from explain) other input =
 RefusesTwoTexts (VerifyLasso explain) other input = IsLassoRefused other input
 RefusesTwoTexts (VerifyController explain) other input = IsControllerRefused other input
 RefusesTwoTexts (Accepts explain) other input = IsAcceptsRefused other input
+RefusesTwoTexts (AcceptsSome explain) other input = IsAcceptsSomeRefused other input
 RefusesTwoTexts (Meet false) other input = IsMeetRefused other input
 RefusesTwoTexts (Meet true) other input = IsMeetTrimmedRefused other input
 RefusesTwoTexts Join other input = IsJoinRefused other input

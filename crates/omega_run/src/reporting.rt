@@ -115,7 +115,7 @@ fn names_of(command: TwoTexts) -> (&'static str, &'static str)
         }
         TwoTexts::VerifyLasso { .. } => ("automaton", "lasso"),
         TwoTexts::VerifyController { .. } => ("specification", "controller"),
-        TwoTexts::Accepts { .. } => ("word", "automaton"),
+        TwoTexts::Accepts { .. } | TwoTexts::AcceptsSome { .. } => ("word", "automaton"),
         TwoTexts::Meet { .. }
         | TwoTexts::Join
         | TwoTexts::Contained { .. }

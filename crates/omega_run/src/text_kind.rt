@@ -68,7 +68,9 @@ fn kinds_of_two(command: TwoTexts) -> (TextKind, TextKind)
         }
         TwoTexts::VerifyWinners { .. } => (TextKind::Game, TextKind::Winners),
         TwoTexts::VerifyLasso { .. } => (TextKind::Automata, TextKind::Other),
-        TwoTexts::Accepts { .. } => (TextKind::Other, TextKind::Automata),
+        TwoTexts::Accepts { .. } | TwoTexts::AcceptsSome { .. } => {
+            (TextKind::Other, TextKind::Automata)
+        }
         TwoTexts::DrawSolution { from, .. } => (TextKind::Solution { from }, TextKind::Game),
         TwoTexts::DrawWalk { .. } => (TextKind::Other, TextKind::Game),
         _ => (TextKind::Automata, TextKind::Automata),

@@ -1,7 +1,7 @@
 -- A judgement is `Controls` exactly for a controller.
 use Rattle.std.proofs.Common.{◌≡◌, refl}
 use Rattle.omega_synth_game.specs.RoundsOf.{holds_in}
-use Rattle.omega_lang_inclusion.specs.declared.containment.Counterexample.{Counterexample}
+use Rattle.omega_lang_intersection.specs.declared.answer.Example.{Example}
 use Rattle.omega_synth_check.specs.Laws.{JudgementsAreExact}
 use Rattle.omega_synth_check.specs.declared.judgement.Judgement.TheVariants.{Controls, NoStart, NotAccepted, Unanswered}
 use Rattle.omega_synth_check.specs.declared.judgement.Lack.{Lack}
@@ -12,7 +12,7 @@ none_controls is = cc
 lack_controls : (lack : Lack) → Unanswered lack ≡ Controls → ⊥
 lack_controls lack is = cc
 
-word_controls : (example : Counterexample) → NotAccepted example ≡ Controls → ⊥
+word_controls : (example : Example) → NotAccepted example ≡ Controls → ⊥
 word_controls example is = cc
 
 pub judgements_are_exact : JudgementsAreExact
@@ -27,5 +27,5 @@ judgements_are_exact decided specification controller controlled (Unanswered lac
 )
 judgements_are_exact decided specification controller controlled (NotAccepted example) right = (
   λ is. absurd (word_controls example is),
-  λ for. absurd (right.1.outside.not_accepted (for.accepted right.1.word right.1.outside.accepted)),
+  λ for. absurd (right.1.wanted.not_accepted (for.accepted right.1.word right.1.wanted.accepted)),
 )

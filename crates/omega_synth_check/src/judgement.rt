@@ -1,4 +1,4 @@
-use omega_lang_inclusion::Counterexample;
+use omega_lang_inclusion::Example;
 use omega_text::{Numbers, Seq};
 
 /// Whether an automaton is a controller for a specification.
@@ -11,7 +11,7 @@ pub enum Judgement {
     /// A state that it reaches does not answer a letter of the environment.
     Unanswered(Lack),
     /// It accepts a word that the specification does not accept.
-    NotAccepted(Counterexample),
+    NotAccepted(Example),
 }
 
 /// A state, and a letter of the environment that no edge of it answers.

@@ -25,4 +25,4 @@ pub use laws::{
     kept_parts_control,
 };
 pub use omega_hoa_automaton::{Automaton, Refusal};
-pub use omega_lang_inclusion::Counterexample;
+pub use omega_lang_inclusion::Example;

@@ -38,11 +38,16 @@ pub(crate) fn accepts_task<'a>(alloc: Global, options: &Options<'a>) -> Result<T
     ensures mistaken { IfErr result (IsMistake sub.Accepts options.now) }
 {
     let explain = is_set(OptionName::Explain, options.explain)?;
+    let some = is_set(OptionName::ForSome, options.for_some)?;
     let Some(word) = options.word_text else {
         return Err(Mistake::Missing(OptionName::WordText));
     };
     let other = Other::of_word(alloc, word)?;
-    Ok(Task::of(Command::TwoTexts(TwoTexts::Accepts { explain }, other)))
+    if some {
+        Ok(Task::of(Command::TwoTexts(TwoTexts::AcceptsSome { explain }, other)))
+    } else {
+        Ok(Task::of(Command::TwoTexts(TwoTexts::Accepts { explain }, other)))
+    }
 }
 
 /// Returns the task that `contained` requests with `options`, or what is wrong with them.

@@ -1,13 +1,13 @@
 -- Refusals for a choice, and words that automata accept.
 use Rattle.std.specs.Prelude.{ℕ, Bool, true, false, Option, None, Some}
 use Rattle.omega_hoa_automaton.specs.Automaton.{Description}
-use Rattle.omega_lang_runs.specs.declared.verdict.Verdict.{Verdict}
-use Rattle.omega_lang_runs.specs.declared.verdict.Verdict.TheVariants.{Empty, Lasso}
+use Rattle.omega_lang_intersection.specs.Intersection.{AcceptBoth}
+use Rattle.omega_lang_intersection.specs.declared.answer.Intersection.{Intersection}
+use Rattle.omega_lang_intersection.specs.declared.answer.Intersection.TheVariants.{Common, Empty}
 use Rattle.omega_text.specs.declared.refusal.Refusal.{Refusal}
 use Rattle.omega_text.specs.declared.refusal.Refusal.TheVariants.{Task}
 use Rattle.omega_text.specs.declared.refusal.task.TaskFault.TheVariants.{NotDeterministic}
 use Rattle.omega_text.specs.NamedWords.{NamedWord}
-use Rattle.omega_lang_word_laws.specs.NamedWords.{AcceptsNamed}
 
 -- the state that a refusal for a choice names
 abbrev pub choice_in : Refusal → Option ℕ
@@ -16,9 +16,9 @@ choice_in refusal = None
 
 -- both automata accept some word
 abbrev pub AcceptCommon : Description → Description → Type 0
-AcceptCommon one a = (named : NamedWord) × AcceptsNamed one named × AcceptsNamed a named
+AcceptCommon one a = (named : NamedWord) × AcceptBoth one a named
 
--- whether a verdict is a lasso
-abbrev pub is_lasso : Verdict → Bool
-is_lasso Empty = false
-is_lasso (Lasso stem cycle) = true
+-- whether an answer is words that both automata accept
+abbrev pub is_common : Intersection → Bool
+is_common Empty = false
+is_common (Common example) = true

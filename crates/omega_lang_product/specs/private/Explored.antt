@@ -5,6 +5,7 @@ use Rattle.omega_hoa_edges.specs.Limits.{most_edges, most_states}
 use Rattle.omega_lang_product.specs.JointEdges.{AreJoints}
 use Rattle.omega_lang_product.specs.PairGraph.{joints_of}
 use Rattle.omega_lang_product.specs.Pairs.{AreReached, Pair, targets_of}
+use Rattle.omega_lang_product.specs.Refusing.{AreReachable}
 use Rattle.omega_lang_product.specs.declared.explored.Explored.{Explored}
 use Rattle.omega_lang_product.specs.declared.tables.Tables.{Tables}
 use Rattle.omega_lang_product.specs.private.Operands.{HaveRows}
@@ -26,6 +27,7 @@ HaveRowsOf tables pairs count = (k : ℕ) → k < count → HaveRows tables (get
 -- it and the pairs before it
 pub record IsExplored (one other : Description) (explored : Explored) : Type 0 where
   pub reached : AreReached one other explored.pairs.keys
+  pub reachable : AreReachable one other explored.pairs.keys
   pub few : length explored.pairs.keys ≤ most_states
   pub edges : AreJoints (joints_of one other explored.pairs.keys) explored.edges
   pub light : length explored.edges.ends.items ≤ most_edges

@@ -9,7 +9,7 @@ use Rattle.omega_lang_inclusion.specs.Containing.{IsContained, IsContainment, Is
 use Rattle.omega_lang_inclusion.specs.Equality.{IsEquality}
 use Rattle.omega_lang_inclusion.specs.declared.containment.Containment.{Containment}
 use Rattle.omega_lang_inclusion.specs.declared.containment.Containment.TheVariants.{Contained, NotContained}
-use Rattle.omega_lang_inclusion.specs.declared.containment.Counterexample.{Counterexample}
+use Rattle.omega_lang_intersection.specs.declared.answer.Example.{Example}
 use Rattle.omega_lang_inclusion.specs.declared.equality.Equality.{Equality}
 use Rattle.omega_lang_inclusion.specs.declared.equality.Equality.TheVariants.{Equal, OnlyFirst, OnlySecond}
 use Rattle.omega_lang_lasso_text.specs.Written.{lasso_text}
@@ -25,7 +25,7 @@ use Rattle.omega_laws.proofs.containing.Parted.{seen_periodic}
 use Rattle.omega_laws.proofs.containing.Texts.{of_automaton, of_text}
 
 -- an explanation ends in the words of its counterexample
-example_told : (explain : Bool) (output who : List ℕ) (example : Counterexample) → output ≡ codes "no\n" ++ explained explain (who ++ example_lines example)
+example_told : (explain : Bool) (output who : List ℕ) (example : Example) → output ≡ codes "no\n" ++ explained explain (who ++ example_lines example)
     → explain ≡ true → EndsInWord output (lasso_word_text example.word)
 example_told explain output who example is asked =
     let lasso : List ℕ = lasso_text example.stem example.cycle in
@@ -45,7 +45,7 @@ module _ (law : AutomataAreOne) (writable : ReadAutomataAreWritable) where
       all = λ omniscience word accepts. of_automaton other a word other_read (is.all omniscience word (of_text law text one word read accepts));
     }
 
-    words_told : (explain : Bool) (output who : List ℕ) (example : Counterexample) → IsCounterexample one a example
+    words_told : (explain : Bool) (output who : List ℕ) (example : Example) → IsCounterexample one a example
         → output ≡ codes "no\n" ++ explained explain (who ++ example_lines example) → TellsOutside text other explain output
     words_told explain output who example is written =
         let strings : HasStrings one = (writable one (inl (text, read))).propositions in
@@ -54,8 +54,8 @@ module _ (law : AutomataAreOne) (writable : ReadAutomataAreWritable) where
           words = lasso_word_text example.word;
           shows = record {
             fitting = is.word;
-            fits = is.fits strings other_strings;
-            outside = λ word fits. (let outside = is.all_outside strings other_strings word fits in (
+            fits = is.fits (strings, other_strings);
+            outside = λ word fits. (let outside = is.all_wanted (strings, other_strings) word fits in (
               of_automaton text one word read outside.accepted,
               λ accepts. outside.not_accepted (of_text law other a word other_read accepts),
             ));

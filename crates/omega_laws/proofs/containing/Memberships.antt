@@ -1,5 +1,5 @@
 -- What `accepts` answers of the text of a word and of that of an automaton.
-use Rattle.std.proofs.Common.{◌≡◌, ◌++◌, ℕ, inl, Bool, true, List, codes, sym, ap, subst, ◌∙◌}
+use Rattle.std.proofs.Common.{◌≡◌, ◌++◌, ℕ, inl, Bool, true, List, codes, append_assoc, sym, ap, subst, ◌∙◌}
 use Rattle.omega_hoa_automaton.specs.Automaton.{Description}
 use Rattle.omega_hoa.specs.Laws.{AutomataAreOne}
 use Rattle.omega_hoa_round_trips.specs.Laws.{ReadAutomataAreWritable}
@@ -11,16 +11,30 @@ use Rattle.omega_lang_lasso_word.specs.Laws.{HasStrings}
 use Rattle.omega_lang_lasso_word.specs.declared.symbolic_word.SymbolicWord.{SymbolicWord}
 use Rattle.omega_text.specs.NamedWords.{NamedWord}
 use Rattle.omega_lang_word_text.specs.Laws.{FittingTextsAreRead, NamesAreStrings, WordsOfTextsAreOne}
+use Rattle.omega_lang_word_text.specs.Text.{IsWordText}
+use Rattle.omega_lang_intersection.specs.declared.answer.Example.{Example}
+use Rattle.omega_lang_intersection.specs.declared.answer.Intersection.{Intersection}
+use Rattle.omega_lang_intersection.specs.declared.answer.Intersection.TheVariants.{Common, Empty}
+use Rattle.omega_lang_lasso_text.specs.Written.{lasso_text}
 use Rattle.omega_lang_inclusion.specs.Membership.{IsMembership}
 use Rattle.omega_lang_inclusion.specs.OneWord.{IsOneWordFor}
+use Rattle.omega_lang_inclusion.specs.SomeWord.{IsSomeMembership}
 use Rattle.omega_lang_inclusion.specs.declared.membership.Membership.{Membership}
 use Rattle.omega_lang_inclusion.specs.declared.membership.Membership.TheVariants.{Accepted, Rejected}
 use Rattle.omega_io.specs.Answer.{IsReply, explained}
 use Rattle.omega_answers_inclusion.specs.Accepts.{membership_answer}
-use Rattle.omega_answers_inclusion.specs.Example.{word_line}
-use Rattle.omega_laws.specs.InclusionTexts.{AcceptedTextsAreAccepted, SaysAccepted}
+use Rattle.omega_answers_inclusion.specs.AcceptsSome.{some_exit, some_text}
+use Rattle.omega_answers_inclusion.specs.Example.{example_lines, word_line}
+use Rattle.omega_laws.specs.InclusionTexts.{AcceptedTextsAreAccepted, EndsInWord, SaysAccepted, SaysSomeAccepted, SomeTextsAreAccepted}
 use Rattle.omega_laws.proofs.containing.Parted.{seen_periodic}
 use Rattle.omega_laws.proofs.containing.Texts.{of_automaton, of_text}
+
+-- what fits the text of a word is admitted
+fitting_admitted : FittingTextsAreRead → WordsOfTextsAreOne → (word : List ℕ) (symbolic : SymbolicWord) → IsWordText word symbolic → (named : NamedWord) → Fits word named → Admits symbolic named
+fitting_admitted fitting words_one word symbolic read named fits =
+    let own = fitting word named fits read.short in
+    let same : own.0 ≡ symbolic = words_one word own.0 symbolic own.1 read in
+    subst (λ (s : SymbolicWord). Admits s named) same ((own.2 named).1 fits)
 
 pub accepted_said : AutomataAreOne → ReadAutomataAreWritable → FittingTextsAreRead → NamesAreStrings → WordsOfTextsAreOne → AcceptedTextsAreAccepted
 accepted_said law writable fitting names words_one word text explain exit output answer = go answer.holds.answer answer.holds.right answer.holds.reply
@@ -31,12 +45,8 @@ accepted_said law writable fitting names words_one word text explain exit output
     a : Description
     a = answer.input
 
-    -- what fits the text is admitted
     admitted : (named : NamedWord) → Fits word named → Admits symbolic named
-    admitted named fits =
-        let own = fitting word named fits answer.file_read.short in
-        let same : own.0 ≡ symbolic = words_one word own.0 symbolic own.1 answer.file_read in
-        subst (λ (s : SymbolicWord). Admits s named) same ((own.2 named).1 fits)
+    admitted = fitting_admitted fitting words_one word symbolic answer.file_read
 
     go : (said : Membership) → IsMembership symbolic a said → IsReply (membership_answer explain said) exit output → SaysAccepted word text explain exit output
     go Accepted right reply =
@@ -63,4 +73,46 @@ accepted_said law writable fitting names words_one word text explain exit output
           rejected = λ named fits. (let rejected = right.all_rejected own strings named fits in
               (rejected.admitted, λ accepts. rejected.not_accepted (of_text law text a named answer.input_read accepts)));
           told = λ asked. (codes "no\n", reply.1 ∙ ap (λ (b : Bool). codes "no\n" ++ explained b (word_line words)) asked);
+        })
+
+-- an explanation ends in the words of its example
+example_told : (explain : Bool) (output : List ℕ) (example : Example) → output ≡ codes "yes\n" ++ explained explain (example_lines example)
+    → explain ≡ true → EndsInWord output (lasso_word_text example.word)
+example_told explain output example is asked =
+    let lasso : List ℕ = lasso_text example.stem example.cycle in
+    let line : List ℕ = word_line example.word in (
+      codes "yes\n" ++ lasso,
+      is ∙ ap (λ (b : Bool). codes "yes\n" ++ explained b (example_lines example)) asked ∙ sym (append_assoc (codes "yes\n") lasso line),
+    )
+
+pub some_said : AutomataAreOne → ReadAutomataAreWritable → FittingTextsAreRead → NamesAreStrings → WordsOfTextsAreOne → SomeTextsAreAccepted
+some_said law writable fitting names words_one word text explain exit output answer = go answer.holds.answer answer.holds.right answer.holds.ends answer.holds.written
+  where
+    symbolic : SymbolicWord
+    symbolic = answer.file
+
+    a : Description
+    a = answer.input
+
+    strings : HasStrings a
+    strings = (writable a (inl (text, answer.input_read))).propositions
+
+    go : (said : Intersection) → IsSomeMembership symbolic a said → exit ≡ some_exit said → output ≡ some_text explain said → SaysSomeAccepted word text explain exit output
+    go Empty none ends written =
+        subst (λ (e : Exit). SaysSomeAccepted word text explain e output) (sym ends)
+        (λ named fits accepts. none named (record {
+          admitted = fitting_admitted fitting words_one word symbolic answer.file_read named fits;
+          accepted = of_text law text a named answer.input_read accepts;
+        }))
+    go (Common example) is ends written =
+        let both = (strings, names word symbolic answer.file_read) in
+        subst (λ (e : Exit). SaysSomeAccepted word text explain e output) (sym ends)
+        (record {
+          symbolic = symbolic;
+          read = answer.file_read;
+          words = lasso_word_text example.word;
+          fitting = is.word;
+          fits = is.fits both;
+          accepted = λ named fits. (let member = is.all_wanted both named fits in (member.admitted, of_automaton text a named answer.input_read member.accepted));
+          told = example_told explain output example written;
         })

@@ -1,46 +1,28 @@
 -- one of the texts is refused, or what is answered or refused is that of the word and the automaton
 use Rattle.std.proofs.Common.{inl, inr}
 use Rattle.std.proofs.lemmas.Result.{IfErr-weaker, IfOk-weaker}
-use Rattle.omega_hoa.specs.Alone.{IsAutomatonRefusal}
-use Rattle.omega_io.specs.declared.refused.Which.TheVariants.{File, Input}
-use Rattle.omega_lang_lasso_word.specs.declared.symbolic_word.SymbolicWord.{SymbolicWord}
-use Rattle.omega_lang_word_text.specs.Text.{IsWordRefusal, IsWordText}
-use Rattle.omega_answers.proofs.About.{of_read}
-use Rattle.omega_answers.proofs.Refusals.{text_is_read}
 use Rattle.omega_answers_inclusion.proofs.accepts.accepts_text.Goals as goal
 
-pub returns-in-Err-clause-refused : goal.returns-in-Err-clause-refused
-returns-in-Err-clause-refused c =
-    inl (of_read (IsWordRefusal c.args.word.now) (λ refusal. (symbolic : SymbolicWord) × IsWordText c.args.word.now symbolic × IsAutomatonRefusal c.args.text.now refusal)
-    File (IsWordRefusal c.args.word.now) (λ refusal is. is) (λ h. h)
-    c.in-Err.refusal c.in-Err.ensures.refused c.of-in-Err.result c.of-in-Err.ensures)
-
-pub returns-in-Err-read_one-clause-refused : goal.returns-in-Err-read_one-clause-refused
-returns-in-Err-read_one-clause-refused c =
-    inl (of_read (IsWordRefusal c.args.word.now) (λ refusal. (symbolic : SymbolicWord) × IsWordText c.args.word.now symbolic × IsAutomatonRefusal c.args.text.now refusal)
-    Input (IsAutomatonRefusal c.args.text.now) (λ refusal is. (c.in-Ok.symbolic, c.in-Ok.ensures.word, is)) (text_is_read c.args.text.now)
-    c.in-Err-read_one.refusal c.in-Err-read_one.ensures.refused c.of.result c.of.ensures)
-
-pub returns-in-Ok-read_one-clause-answer : goal.returns-in-Ok-read_one-clause-answer
-returns-in-Ok-read_one-clause-answer c =
+pub returns-clause-answer : goal.returns-clause-answer
+returns-clause-answer c =
     IfOk-weaker c.membership_verdict.result _ _
     (λ made verdict. record {
-      file = c.in-Ok.symbolic;
-      file_read = c.in-Ok.ensures.word;
-      input = c.in-Ok-read_one.automaton;
-      input_read = c.in-Ok-read_one.ensures.automaton;
+      file = c.in_ok-read.read.symbolic;
+      file_read = c.in_ok-read.ensures.word;
+      input = c.in_ok-read.read.automaton;
+      input_read = c.in_ok-read.ensures.automaton;
       holds = verdict;
     })
     c.membership_verdict.ensures.verdict
 
-pub returns-in-Ok-read_one-clause-refused : goal.returns-in-Ok-read_one-clause-refused
-returns-in-Ok-read_one-clause-refused c =
+pub returns-clause-refused : goal.returns-clause-refused
+returns-clause-refused c =
     IfErr-weaker c.membership_verdict.result _ _
     (λ refused is. inr (record {
-      file = c.in-Ok.symbolic;
-      file_read = c.in-Ok.ensures.word;
-      input = c.in-Ok-read_one.automaton;
-      input_read = c.in-Ok-read_one.ensures.automaton;
+      file = c.in_ok-read.read.symbolic;
+      file_read = c.in_ok-read.ensures.word;
+      input = c.in_ok-read.read.automaton;
+      input_read = c.in_ok-read.ensures.automaton;
       holds = is;
     }))
     c.membership_verdict.ensures.refused

@@ -1,8 +1,8 @@
 -- the refusal of the complement, or what is answered or refused with it
 use Rattle.std.proofs.lemmas.Result.{IfErr-weaker, IfOk-weaker, on_ok_weaker}
 use Rattle.omega_lang_inclusion.specs.Refusing.{not_complemented}
-use Rattle.omega_lang_inclusion.specs.private.Telling.{IsComplemented}
-use Rattle.omega_lang_inclusion.proofs.Answering.{are_comparable}
+use Rattle.omega_lang_inclusion.specs.private.Complemented.{IsComplemented}
+use Rattle.omega_lang_inclusion.proofs.Complementing.{are_comparable}
 use Rattle.omega_lang_inclusion.proofs.containing.decide_containment.Goals as goal
 
 pub returns-in-Err-clause-refused : goal.returns-in-Err-clause-refused

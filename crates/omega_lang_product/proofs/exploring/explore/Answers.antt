@@ -4,7 +4,7 @@ use Rattle.omega_hoa_edges.specs.Limits.{most_edges, most_states}
 use Rattle.omega_lang_product.specs.Pairs.{Pair, starts_between, targets_of, with_pairs}
 use Rattle.omega_lang_product.specs.Refusing.{HasUnfitAt, many_edges, many_pairs}
 use Rattle.omega_lang_product.proofs.Finding.{counted_all, edges_all, found_more, found_none, long_all, many_now, reached_all, reached_more}
-use Rattle.omega_lang_product.proofs.Reaching.{done_with, extends_by, found_so_far}
+use Rattle.omega_lang_product.proofs.Reaching.{done_with, extends_by}
 use Rattle.omega_hoa_edges.proofs.Refusals.{passed_on}
 use Rattle.omega_lang_product.proofs.Refused.{large_in_graph}
 use Rattle.omega_lang_product.proofs.Unmet.{join_refused, listed_at, unfit_pair}
@@ -46,8 +46,8 @@ returns-in_err-reach-clause-err c =
     let below : c.loop-at.at < length c.loop-at.pairs.keys = omega (arith, c.loop-at-test.true, c.len.ensures.len) in
     passed_on c.from_residual-in_err-reach.result _ _ c.from_residual-in_err-reach.ensures.1
     (large_in_graph one other (HasUnfitAt one other c.pair_at-pair.result)
-    (unfit_pair one other c.loop-at.pairs.keys c.loop-at.at (found_so_far one other c.loop-at.pairs.keys c.loop-at.at c.loop-at.invariant.0.way)
-    c.pair_at-pair.result (listed_at {X = Pair} c.loop-at.pairs.keys c.loop-at.at c.pair_at-pair.result below c.pair_at-pair.ensures))
+    (unfit_pair one other c.pair_at-pair.result (c.loop-at.invariant.0.way.reachable.each c.pair_at-pair.result
+    (listed_at {X = Pair} c.loop-at.pairs.keys c.loop-at.at c.pair_at-pair.result below c.pair_at-pair.ensures)))
     _ c.in_err-reach.ensures.err)
 
 pub returns-in_err-expand-clause-err : goal.returns-in_err-expand-clause-err
@@ -56,15 +56,14 @@ returns-in_err-expand-clause-err c =
     let other = c.args.other.now in
     let below : c.loop-at.at < length c.loop-at.pairs.keys = omega (arith, c.loop-at-test.true, c.len.ensures.len) in
     passed_on c.from_residual-in_err-expand.result _ _ c.from_residual-in_err-expand.ensures.1
-    (join_refused one other c.loop-at.pairs.keys c.loop-at.at (found_so_far one other c.loop-at.pairs.keys c.loop-at.at c.loop-at.invariant.0.way)
-    c.pair_at-pair.result (listed_at {X = Pair} c.loop-at.pairs.keys c.loop-at.at c.pair_at-pair.result below c.pair_at-pair.ensures) _ c.in_err-expand.ensures.err)
+    (join_refused one other c.pair_at-pair.result (c.loop-at.invariant.0.way.reachable.each c.pair_at-pair.result
+    (listed_at {X = Pair} c.loop-at.pairs.keys c.loop-at.at c.pair_at-pair.result below c.pair_at-pair.ensures)) _ c.in_err-expand.ensures.err)
 
 pub returns-then-len-gt-MOST_STATES-clause-err : goal.returns-then-len-gt-MOST_STATES-clause-err
 returns-then-len-gt-MOST_STATES-clause-err c =
     many_pairs (record {
       pairs = c.loop-at.pairs.keys;
-      done = c.loop-at.at;
-      found = found_so_far c.args.one.now c.args.other.now c.loop-at.pairs.keys c.loop-at.at c.loop-at.invariant.0.way;
+      reachable = c.loop-at.invariant.0.way.reachable;
       many = omega (arith, c.if-len-gt-MOST_STATES.true, c.len-in-loop-at.ensures.len);
     })
 
@@ -85,6 +84,7 @@ returns-clause-explored c =
     let all : length c.loop-at.pairs.keys ≤ c.loop-at.at = omega (arith, c.loop-at-test.false, c.len.ensures.len) in
     record {
       reached = done_with one other c.loop-at.pairs.keys c.loop-at.at c.loop-at.invariant.0.way all;
+      reachable = c.loop-at.invariant.0.way.reachable;
       few = omega (arith, all, c.loop-at.invariant.0.way.few);
       edges = edges_all one other c.loop-at.pairs.keys c.loop-at.edges c.loop-at.past.items c.loop-at.at c.loop-at.invariant.0 all;
       light = c.loop-at.invariant.0.light;

@@ -1,6 +1,10 @@
 -- the header, or the acceptance is too deep, or memory is refused
-use Rattle.std.proofs.Common.{◌∙◌}
-use Rattle.omega_lang_product.specs.Refusing.{HasDeepAcceptance, deep_acceptance}
+use Rattle.std.proofs.Common.{◌<◌, ◌∙◌}
+use Rattle.omega_hoa_expression.specs.Limits.{most_depth}
+use Rattle.omega_hoa_acceptance.specs.Raw.{raw_acc_depth}
+use Rattle.omega_hoa_acceptance.specs.Writing.{acc_written}
+use Rattle.omega_lang_product.specs.Acceptance.{conjoined_acceptance}
+use Rattle.omega_lang_product.specs.Refusing.{deep_acceptance}
 use Rattle.omega_lang_product.specs.private.Faults.{IsProductFault}
 use Rattle.omega_lang_product.proofs.Formulas.{items_are}
 use Rattle.omega_lang_product.proofs.Refused.{large_in_product}
@@ -12,7 +16,7 @@ returns-in_err-acceptance-clause-refused c =
     let one = c.args.operands.now.one.now in
     let other = c.args.operands.now.other.now in
     passed_on c.from_residual.result _ _ c.from_residual.ensures.1
-    (large_in_product one other (HasDeepAcceptance one other) deep_acceptance _ c.in_err-acceptance.ensures.err)
+    (large_in_product one other (most_depth < raw_acc_depth (acc_written (conjoined_acceptance one other))) deep_acceptance _ c.in_err-acceptance.ensures.err)
 
 pub returns-in_err-items_of-clause-refused : goal.returns-in_err-items_of-clause-refused
 returns-in_err-items_of-clause-refused c =

@@ -67,6 +67,6 @@ returns-clause-err c =
     first.numbered second.numbered explored.past.items c.requires.explored.past c.past_before-start.result c.past_before-end.result c.past_before-start.ensures c.past_before-end.ensures in
     IfErr-weaker c.edges_between.result _ _
     (λ refusal h. large_weaker (HasDeepLabel (joints_at one other pairs (get_or pairs c.args.at (0, 0)))) (HasDeepMeeting one other)
-    (deep_meeting_of one other pairs c.args.at c.requires.below explored.edges c.requires.explored.edges c.row_of-firsts.result c.row_of-seconds.result c.requires.explored.reached)
+    (deep_meeting_of one other pairs c.args.at c.requires.below explored.edges c.requires.explored.edges c.row_of-firsts.result c.row_of-seconds.result c.requires.explored.reachable)
     refusal (h (joints_at one other pairs (get_or pairs c.args.at (0, 0))) are))
     c.edges_between.ensures.err
