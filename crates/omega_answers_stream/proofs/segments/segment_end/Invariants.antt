@@ -1,0 +1,12 @@
+-- `segment_end`: the search goes on within the bytes.
+use Rattle.std.proofs.Common.{◌-◌, ◌≤◌, length}
+use Rattle.omega_answers_stream.proofs.segments.segment_end.Given as goal
+
+abbrev pub invariant-loop-at : goal.invariant-loop-at
+invariant-loop-at l = record {
+  forward : l.from ≤ l.at;
+  within : l.at ≤ length l.bytes;
+}
+
+abbrev pub decreases-loop-at : goal.decreases-loop-at
+decreases-loop-at l = length l.bytes - l.at
