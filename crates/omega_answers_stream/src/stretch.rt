@@ -55,11 +55,9 @@ pub(crate) fn take_stretch<Q: ItemQuestion, R: Input>(
     if total + count > MOST_TEXT {
         return Ok(Stretch { count, last: false });
     }
-    take_segments::<Q>(alloc, question, asking, bytes.as_slice())?;
-    Ok(Stretch {
-        count,
-        last: count < LONG,
-    })
+    let last = count < LONG;
+    take_segments::<Q>(alloc, question, asking, bytes.as_slice(), last)?;
+    Ok(Stretch { count, last })
 }
 
 /// Reads a stretch of `input`, after `total` bytes that were read before: the bytes that are left, or about as many as
