@@ -116,7 +116,7 @@ impl Compact {
         Ok(Compact { held, alloc })
     }
 
-    /// Keeps nodes, alias names and a depth in the memory that they have, without its unused part.
+    /// Keeps nodes, alias names and a depth in the memory that they have, without its unused part if that is large.
     #[inline(never)]
     fn of_parts(
         alloc: Global,
@@ -131,7 +131,9 @@ impl Compact {
         let mut nodes = nodes;
         nodes.shrink_to_fit();
         let mut names = names;
-        names.shrink_to_fit();
+        if names.len() < names.capacity() / 2 {
+            names.shrink_to_fit();
+        }
         let notation = Notation {
             nodes: Seq::from_vec(nodes),
             names: Seq::from_vec(names),

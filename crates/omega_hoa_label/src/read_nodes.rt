@@ -8,9 +8,6 @@ use omega_text::Refusal;
 use std::alloc::Global;
 use std::marker::Model;
 
-/// How many more nodes there is room for at first.
-const FEW: usize = 4;
-
 /// The nodes of a label that is read, parts before their operators. Contracts see the list of nodes.
 ///
 /// Up to 21 nodes take no memory, a byte each, if none is an alias and the propositions are below 250.
@@ -81,7 +78,7 @@ impl ReadNodes {
     }
 }
 
-/// Returns the nodes of `codes`, with room for a few more.
+/// Returns the nodes of `codes`, with room for one more: most labels with an alias are that alone.
 pub(crate) fn unpacked_nodes(alloc: Global, codes: &[u8]) -> Result<Vec<LabelNode>, Refusal>
     requires { length codes.now ≤ 21 }
     ensures nodes { IfOk result (λ nodes. nodes.items ≡ map node_of codes.now) }
@@ -89,7 +86,7 @@ pub(crate) fn unpacked_nodes(alloc: Global, codes: &[u8]) -> Result<Vec<LabelNod
 {
     let mut room = ROOM;
     let count = unpack(codes, &mut room);
-    let mut nodes = Vec::with_capacity(alloc, codes.len() + FEW)?;
+    let mut nodes = Vec::with_capacity(alloc, codes.len() + 1)?;
     nodes.extend_from_slice(&room[..count])?;
     Ok(nodes)
 }
