@@ -5,4 +5,5 @@ pub mod Flat
 pub mod Follows
 pub mod InTurn
 pub mod Pieces
+pub mod PieceByPiece
 pub mod Texts

@@ -1,5 +1,5 @@
 -- The part of a stream that was read so far, and its end.
-use Rattle.std.proofs.Common.{◌≡◌, ℕ, ◌+◌, ◌≤◌, List, [], ◌++◌, Option, length, subst, inl, inr, refl, arith, append-nil, length-append}
+use Rattle.std.proofs.Common.{◌≡◌, ℕ, ◌+◌, ◌≤◌, List, [], ◌++◌, Option, None, Some, length, inl, inr, refl, arith, length-append}
 use Rattle.std.proofs.KnownBytes.{Consumes-trans}
 use Rattle.std.specs.Io.KnownBytes.{Consumes}
 use Rattle.std.specs.Prelude.{IfErr, Result, Err, Ok}
@@ -27,9 +27,30 @@ reads_piece Holds before now after total old new piece count next reading short 
   follows = λ within. goes_on reading.seen (omega (arith, within, reading.count, is, sum)) (reading.follows short);
 }
 
--- nothing is left
-pub reads_end : (before now after : Option (List ℕ)) (seen : List ℕ) → Consumes before now seen → Consumes now after [] → Consumes before after seen
-reads_end before now after seen first then = subst (Consumes before after) (append-nil seen) (Consumes-trans before now after seen [] first then)
+-- a piece was read after them that passes the limit, and was not followed
+pub reads_past : (Holds : List Item → Asked → Type 0) (before now after : Option (List ℕ)) (total : ℕ) (asking : Asking) (piece : List ℕ) (count next : ℕ)
+    → IsReading Holds before now total asking → Consumes now after piece → count ≡ length piece → next ≡ total + count → (next ≤ most_text → ⊥)
+    → IsReading Holds before after next asking
+reads_past Holds before now after total asking piece count next reading consumed is sum long = record {
+  seen = reading.seen ++ piece;
+  consumed = Consumes-trans before now after reading.seen piece reading.consumed consumed;
+  count = omega (arith, reading.count, is, sum, length-append reading.seen piece);
+  follows = λ within. absurd (long within);
+}
+
+-- no bytes were read
+consumes_nothing : (now : Option (List ℕ)) → Consumes now now []
+consumes_nothing None = tt
+consumes_nothing (Some bytes) = refl
+
+-- before the first byte
+pub nothing_read : (Holds : List Item → Asked → Type 0) (now : Option (List ℕ)) (asking : Asking) → FollowsAsking Holds [] asking → IsReading Holds now now 0 asking
+nothing_read Holds now asking follows = record {
+  seen = [];
+  consumed = consumes_nothing now;
+  count = refl;
+  follows = λ within. follows;
+}
 
 -- ---- how it ends
 

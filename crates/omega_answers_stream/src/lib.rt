@@ -12,13 +12,14 @@ mod asked;
 mod asking;
 mod canon;
 mod check;
-mod front;
 mod item_question;
 mod item_text;
+mod segments;
 mod several;
 mod show;
 mod show_json;
 mod stream_input;
+mod stretch;
 mod told;
 
 pub use answers::Answers;

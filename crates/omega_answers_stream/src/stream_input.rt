@@ -7,10 +7,10 @@ ghost use Rattle.omega_answers_stream.specs.Asking.{IsAnswered, IsAsked, IsAskin
 
 use crate::answers::Answers;
 use crate::asked::Asked;
-use crate::asking::{begin, end, take_piece};
-use crate::front::take_front;
+use crate::asking::{begin, end};
 use crate::item_question::ItemQuestion;
-use omega_io::{Input, PIECE, read_piece};
+use crate::stretch::take_stretch;
+use omega_io::Input;
 use omega_text::{MOST_TEXT, Refusal, TextFault};
 use std::alloc::Global;
 
@@ -43,10 +43,10 @@ pub fn ask_stream<Q: ItemQuestion, R: Input>(
 /// that is refused. Fails with the refusal of the stream's text, with [Refusal::Memory], or with [Refusal::Io] if a
 /// read failed.
 ///
-/// An input of less than 1 MB is read whole, and each automaton in it once. A longer one is never whole in memory: its
-/// front is read so, and then it is read in pieces. Only the segment that has not ended is kept, and the answers so
-/// far. If an item or the stream is refused, no item is asked from there on, but the rest of the input is read on, to
-/// its end or to the first byte past the greatest length of a text.
+/// The input is read in stretches of about 1 MB. An automaton that lies in one of them is read once, and asked before
+/// the next one is read. Only the stretch and the segment that has not ended are kept, and the answers so far. If an
+/// item or the stream is refused, no item is asked from there on, but the rest of the input is read on, to its end or
+/// to the first byte past the greatest length of a text.
 pub fn ask_each<Q: ItemQuestion, R: Input>(
     alloc: Global,
     input: &mut R,
@@ -60,19 +60,13 @@ pub fn ask_each<Q: ItemQuestion, R: Input>(
     ensures counted { R.failed input.new ≡ R.failed input.old + failures_of result }
 {
     let mut asking = begin::<Q>(alloc, question);
-    let front = take_front::<Q, R>(alloc, input, question, &mut asking)?;
-    if front.whole {
-        return end::<Q>(question, asking);
-    }
-    let mut piece = [0; PIECE];
-    let mut total = front.count;
+    let mut total = 0;
     while total <= MOST_TEXT {
-        let count = read_piece(input, total, &mut piece)?;
-        if count == 0 {
+        let stretch = take_stretch::<Q, R>(alloc, input, question, &mut asking, total)?;
+        total += stretch.count;
+        if stretch.last {
             return end::<Q>(question, asking);
         }
-        take_piece::<Q>(alloc, question, &mut asking, &piece[..count])?;
-        total += count;
     }
     Err(Refusal::Text(TextFault::TooLong))
 }

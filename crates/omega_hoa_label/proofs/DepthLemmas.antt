@@ -1,5 +1,5 @@
 -- The nodes of a label leave its depth, which is at most their number.
-use Rattle.std.proofs.Common.{◌≡◌, ℕ, ◌+◌, ◌≤◌, ◌<◌, max, min, List, [], ◌∷◌, ◌++◌, length, append-nil, append_assoc, ap, arith, refl, sym, ◌∙◌}
+use Rattle.std.proofs.Common.{◌≡◌, ℕ, ◌+◌, ◌≤◌, max, min, List, [], ◌∷◌, ◌++◌, length, append-nil, append_assoc, ap, arith, refl, sym, ◌∙◌}
 use Rattle.omega_hoa_expression.specs.Depth.{counted}
 use Rattle.omega_hoa_expression.specs.Depths.{top_depth}
 use Rattle.omega_hoa_expression.specs.Joins.{regrouped}

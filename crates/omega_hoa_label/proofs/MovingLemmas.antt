@@ -1,5 +1,5 @@
 -- The nodes of a label over other propositions are those of that label, which is as deep.
-use Rattle.std.proofs.Common.{◌≡◌, ℕ, ◌+◌, max, List, [], ◌∷◌, ◌++◌, map, ap, refl, sym, ◌∙◌}
+use Rattle.std.proofs.Common.{◌≡◌, ℕ, ◌+◌, max, List, [], ◌∷◌, ◌++◌, map, ap, refl, ◌∙◌}
 use Rattle.std.proofs.lemmas.List.{map-append}
 use Rattle.omega_hoa_label.specs.Label.{LabelTree, conjunction, constant, disjunction, label_depth, negation, proposition}
 use Rattle.omega_hoa_label.specs.Postfix.{postfix}

@@ -5,7 +5,6 @@ use Rattle.omega_hoa_expression.specs.Joins.{regrouped}
 use Rattle.omega_hoa_label.specs.Label.{LabelTree, conjunction, constant, disjunction, negation, proposition}
 use Rattle.omega_hoa_label.specs.Postfix.{postfix, alias_names, raw_postfix}
 use Rattle.omega_hoa_label.specs.Raw.{RawLabelTree}
-use Rattle.omega_hoa_label.specs.Raw as raw
 use Rattle.omega_hoa_label.specs.Writing.{grouped, label_text, label_written}
 use Rattle.omega_hoa_label.specs.private.layout.Parts.{Part, nodes_before, part_of, part_with, parts_after, within, within_rank}
 use Rattle.omega_hoa_label.specs.declared.label.LabelNode.{LabelNode}

@@ -13,9 +13,9 @@ use crate::label::LabelNode;
 use crate::notation::{
     Notation, all_propositions_below, any_alias, count_bare, is_proposition_below, stays,
 };
+use crate::read_nodes::{ReadNodes, unpacked_nodes};
 use omega_hoa_expression::{append, fitted_copy, with_one};
 use omega_text::{Refusal, Seq};
-use smallvec::SmallVec;
 use std::alloc::Global;
 use std::marker::Model;
 
@@ -83,10 +83,44 @@ impl Compact {
         })
     }
 
-    /// Keeps nodes, alias names and a depth in the memory that they have, without its unused part.
-    pub(crate) fn of_parts(
+    /// Keeps nodes that were read, alias names and a depth in place or in the memory that they have.
+    #[inline(always)]
+    pub(crate) fn of_read(
         alloc: Global,
-        nodes: SmallVec<LabelNode, 24>,
+        nodes: ReadNodes,
+        names: Vec<u8>,
+        depth: u32,
+    ) -> Result<Self, Refusal>
+        ensures ok { IfOk result (λ compact. compact ≡
+            record { nodes = nodes; names = names.items; depth = depth }) }
+        ensures err { IfErr result IsMemory }
+    {
+        let ReadNodes {
+            codes,
+            count,
+            is_long,
+            long,
+        } = nodes;
+        if is_long {
+            return Compact::of_parts(alloc, long, names, depth);
+        }
+        if !names.is_empty() || depth > u8::MAX as u32 {
+            let nodes = unpacked_nodes(alloc, &codes[..count as usize])?;
+            return Compact::of_parts(alloc, nodes, names, depth);
+        }
+        let held = Held::Short {
+            count,
+            depth: depth as u8,
+            codes,
+        };
+        Ok(Compact { held, alloc })
+    }
+
+    /// Keeps nodes, alias names and a depth in the memory that they have, without its unused part if that is large.
+    #[inline(never)]
+    fn of_parts(
+        alloc: Global,
+        nodes: Vec<LabelNode>,
         names: Vec<u8>,
         depth: u32,
     ) -> Result<Self, Refusal>
@@ -94,10 +128,12 @@ impl Compact {
             record { nodes = nodes.items; names = names.items; depth = depth }) }
         ensures err { IfErr result IsMemory }
     {
-        let mut nodes = nodes.into_vec()?;
+        let mut nodes = nodes;
         nodes.shrink_to_fit();
         let mut names = names;
-        names.shrink_to_fit();
+        if names.len() < names.capacity() / 2 {
+            names.shrink_to_fit();
+        }
         let notation = Notation {
             nodes: Seq::from_vec(nodes),
             names: Seq::from_vec(names),

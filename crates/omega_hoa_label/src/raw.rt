@@ -11,12 +11,12 @@ ghost use Rattle.omega_hoa_expression.specs.Limits.{most_depth, most_size};
 ghost use Rattle.omega_hoa_label.specs.Bare.{bare, is_alias, is_bare};
 ghost use Rattle.omega_hoa_label.specs.private.layout.Joining.{IsJoining, joined_by};
 
-use crate::codes::{MOST_IN_PLACE, ROOM};
+use crate::codes::ROOM;
 use crate::compact::Compact;
 use crate::label::{Label, LabelNode};
+use crate::read_nodes::ReadNodes;
 use omega_hoa_expression::{MOST_DEPTH, MOST_SIZE, deeper};
 use omega_text::Refusal;
-use smallvec::SmallVec;
 use std::alloc::Global;
 use std::marker::Model;
 
@@ -190,24 +190,20 @@ impl RawLabel {
     }
 
     /// Makes the label of `nodes` in postfix order, with its alias names and its depth as [`depth`](RawLabel::depth)
-    /// returns it. Nodes that are not kept in place stay in the memory that they have.
+    /// returns it. The nodes are moved, or stay in the memory that they have.
     #[inline(always)]
     pub fn from_postfix(
         alloc: Global,
-        nodes: SmallVec<LabelNode, 24>,
+        nodes: ReadNodes,
         names: Vec<u8>,
         depth: u32,
     ) -> Result<RawLabel, Refusal>
-        requires { IsRawInPostfix nodes.items names.items depth }
+        requires { IsRawInPostfix nodes names.items depth }
         ensures ok { IfOk result
-            (λ label. (tree : RawLabelTree) → AreOf tree nodes.items names.items → label ≡ tree) }
+            (λ label. (tree : RawLabelTree) → AreOf tree nodes names.items → label ≡ tree) }
         ensures err { IfErr result IsMemory }
     {
-        if nodes.as_slice().len() > MOST_IN_PLACE {
-            RawLabel::of_parts(alloc, nodes, names, depth)
-        } else {
-            RawLabel::of_nodes(alloc, nodes.as_slice(), names.as_slice(), depth)
-        }
+        RawLabel::of_read(alloc, nodes, names, depth)
     }
 
     /// Makes the label of `nodes` in postfix order, with its alias names and its depth.
@@ -227,18 +223,18 @@ impl RawLabel {
     }
 
     /// Makes the label of `nodes` in postfix order, with its alias names and its depth, in the memory that they have.
-    #[inline(never)]
-    fn of_parts(
+    #[inline(always)]
+    fn of_read(
         alloc: Global,
-        nodes: SmallVec<LabelNode, 24>,
+        nodes: ReadNodes,
         names: Vec<u8>,
         depth: u32,
     ) -> Result<RawLabel, Refusal>
-        requires { IsRawLabel nodes.items names.items depth }
-        ensures ok { IfOk result (λ label. label ≡ raw_tree_of nodes.items names.items) }
+        requires { IsRawLabel nodes names.items depth }
+        ensures ok { IfOk result (λ label. label ≡ raw_tree_of nodes names.items) }
         ensures err { IfErr result IsMemory }
     {
-        let written = Compact::of_parts(alloc, nodes, names, depth)?;
+        let written = Compact::of_read(alloc, nodes, names, depth)?;
         Ok(RawLabel { written })
     }
 

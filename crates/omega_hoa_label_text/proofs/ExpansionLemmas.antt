@@ -1,5 +1,5 @@
 -- A meaning without fault, and the label of its nodes.
-use Rattle.std.proofs.Common.{◌≡◌, Bool, true, false, cond, ltb, List, Option, Some, None, option_map, IsSome, ap, refl, sym, ◌∙◌, arith}
+use Rattle.std.proofs.Common.{◌≡◌, Bool, true, false, cond, ltb, List, Option, Some, None, option_map, IsSome, ap, refl, sym, arith}
 use Rattle.std.proofs.lemmas.Bool.{ltb-false}
 use Rattle.omega_text.specs.declared.refusal.automaton.AutomatonFault.{AutomatonFault}
 use Rattle.omega_text.specs.declared.refusal.automaton.AutomatonFault.TheVariants.{Expansion, TooDeep}

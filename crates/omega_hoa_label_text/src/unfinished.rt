@@ -3,16 +3,15 @@ ghost use Rattle.omega_text.specs.Cases.{IsMemory};
 ghost use Rattle.omega_hoa_expression.specs.Limits.{past_depth};
 
 use omega_hoa_expression::{Pending, PendingStack, counted_deeper};
-use omega_hoa_label::LabelNode;
+use omega_hoa_label::{LabelNode, ReadNodes};
 use omega_text::Refusal;
-use smallvec::SmallVec;
 use std::alloc::Global;
 
 /// A label that is being read: the nodes and alias names so far, the pending operators and parentheses, and the depth
-/// of the last part. Up to 24 nodes take no memory.
+/// of the last part. Up to 21 nodes take no memory.
 #[derive(Drop)]
 pub(crate) struct Unfinished {
-    pub(crate) nodes: SmallVec<LabelNode, 24>,
+    pub(crate) nodes: ReadNodes,
     pub(crate) names: Vec<u8>,
     pub(crate) pending: PendingStack,
     pub(crate) depth: u32,
@@ -31,7 +30,7 @@ impl Unfinished {
         ensures { (whole : List (Lexeme HoaKind)) → WantsIn whole whole result }
     {
         Unfinished {
-            nodes: SmallVec::new(alloc),
+            nodes: ReadNodes::new(alloc),
             names: Vec::new(alloc),
             pending: PendingStack::new(alloc),
             depth: 1,
@@ -67,8 +66,8 @@ impl Unfinished {
     /// Joins the proposition `number`, with `!` before it if `negated`, by `&` to the last part.
     #[inline(always)]
     pub(crate) fn conjoin_literal(&mut self, negated: bool, number: u32) -> Result<(), Refusal>
-        ensures nodes { OnOk result (self.new.nodes.items ≡
-            (self.old.nodes.items ++ literal negated number) ++ And ∷ []) }
+        ensures nodes { OnOk result (self.new.nodes ≡
+            (self.old.nodes ++ literal negated number) ++ And ∷ []) }
         ensures depth { OnOk result
             (self.new.depth ≡ min (max (literal_depth negated) self.old.depth + 1) past_depth) }
         ensures names { OnOk result (self.new.names.items ≡ self.old.names.items) }
@@ -90,7 +89,7 @@ impl Unfinished {
         ensures pending { OnOk result
             (self.new.pending ≡ (if negated then Not ∷ WaitingAnd self.old.depth ∷ self.old.pending
             else WaitingAnd self.old.depth ∷ self.old.pending)) }
-        ensures nodes { OnOk result (self.new.nodes.items ≡ self.old.nodes.items) }
+        ensures nodes { OnOk result (self.new.nodes ≡ self.old.nodes) }
         ensures names { OnOk result (self.new.names.items ≡ self.old.names.items) }
         ensures err { IfErr result IsMemory }
     {
@@ -104,7 +103,7 @@ impl Unfinished {
     /// Joins the last part by `&` to a left part of depth `left`.
     #[inline(always)]
     fn conjoin(&mut self, left: u32) -> Result<(), Refusal>
-        ensures nodes { OnOk result (self.new.nodes.items ≡ self.old.nodes.items ++ And ∷ []) }
+        ensures nodes { OnOk result (self.new.nodes ≡ self.old.nodes ++ And ∷ []) }
         ensures depth { OnOk result (self.new.depth ≡ min (max self.old.depth left + 1) past_depth) }
         ensures names { OnOk result (self.new.names.items ≡ self.old.names.items) }
         ensures pending { OnOk result (self.new.pending ≡ self.old.pending) }

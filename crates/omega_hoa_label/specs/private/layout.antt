@@ -8,4 +8,5 @@ pub mod Moving
 pub mod Parts
 pub mod Propositions
 pub mod Raw
+pub mod ReadNodes
 pub mod Texts

@@ -107,11 +107,11 @@ pub record Has (rank : Rank) (whole left : List (Lexeme HoaKind)) (depth : ℕ)
 -- a part is wanted, after what an unfinished label holds
 abbrev pub WantsIn : (whole left : List (Lexeme HoaKind)) → Unfinished → Type 0
 WantsIn whole left unfinished =
-    Wants whole left unfinished.nodes.items unfinished.names.items unfinished.pending
+    Wants whole left unfinished.nodes unfinished.names.items unfinished.pending
 
 -- a part of this case is last in an unfinished label
 abbrev pub HasIn : Rank → (whole left : List (Lexeme HoaKind)) → Unfinished → Type 0
-HasIn rank whole left unfinished = Has rank whole left unfinished.depth unfinished.nodes.items
+HasIn rank whole left unfinished = Has rank whole left unfinished.depth unfinished.nodes
     unfinished.names.items unfinished.pending
 
 -- the nodes of a proposition, after `!` or not
@@ -128,6 +128,6 @@ literal_depth false = 1
 pub record IsWhole (whole left : List (Lexeme HoaKind)) (unfinished : Unfinished) : Type 0 where
   pub tree : RawLabelTree
   pub reads : Reads whole tree left
-  pub flat : unfinished.nodes.items ≡ raw_postfix tree
+  pub flat : unfinished.nodes ≡ raw_postfix tree
   pub named : unfinished.names.items ≡ alias_names tree
   pub deep : unfinished.depth ≡ capped tree

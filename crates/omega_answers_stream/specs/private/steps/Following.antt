@@ -5,7 +5,6 @@ use Rattle.omega_text.specs.Limits.{most_text}
 use Rattle.omega_text.specs.declared.refusal.Refusal.{Refusal}
 use Rattle.omega_hoa.specs.Feeding.{IsFed}
 use Rattle.omega_hoa.specs.Kept.{Kept}
-use Rattle.omega_io.specs.declared.input.Input as input
 use Rattle.omega_hoa.specs.Stream.{IsStreamFault, IsStreamRefusal, IsStreamText}
 use Rattle.omega_hoa.specs.declared.item.Item.{Item}
 use Rattle.omega_answers_stream.specs.declared.asked.Asked.{Asked}
@@ -37,11 +36,21 @@ pub record IsReading (Holds : List Item → Asked → Type 0) (before now : Opti
   pub count : total ≡ length seen
   pub follows : total ≤ most_text → FollowsAsking Holds seen asking
 
--- the same of an input, by its ghost members
-abbrev pub HasReadFrom : {R : Type 0} → input.Ghosts R → (List Item → Asked → Type 0)
-    → (old new : R) → ℕ → Asking → Type 0
-HasReadFrom reading Holds old new total asking =
-    IsReading Holds (reading.remaining old) (reading.remaining new) total asking
+-- the same of bytes from some place on
+abbrev pub IsReadingSome : (List Item → Asked → Type 0) → (now : Option (List ℕ)) → ℕ → Asking → Type 0
+IsReadingSome Holds now total asking =
+    (before : Option (List ℕ)) × IsReading Holds before now total asking
+
+-- after a first number of bytes, wherever they began, more were read, up to another number in all
+abbrev pub ReadsOn : (List Item → Asked → Type 0) → (now after : Option (List ℕ)) → (first all : ℕ)
+    → (old new : Asking) → Type 0
+ReadsOn Holds now after first all old new = (before : Option (List ℕ))
+    → IsReading Holds before now first old → IsReading Holds before after all new
+
+-- this holds of some bytes, and with so many more they are within the limit of texts
+abbrev pub FollowsWithin : (List Item → Asked → Type 0) → ℕ → Asking → Type 0
+FollowsWithin Holds more asking =
+    (seen : List ℕ) × (length seen + more ≤ most_text) × FollowsAsking Holds seen asking
 
 -- this holds of some bytes
 abbrev pub FollowsSome : (List Item → Asked → Type 0) → Asking → Type 0

@@ -1,7 +1,6 @@
 -- The nodes are a label, which is their tree.
-use Rattle.std.proofs.Common.{ap, sym, ◌∙◌}
+use Rattle.std.proofs.Common.{ap, ◌∙◌}
 use Rattle.omega_hoa_label.specs.declared.notation.Notation.{Notation}
-use Rattle.omega_hoa_label.specs.private.layout.Label.{tree_of}
 use Rattle.omega_hoa_label.proofs.ShapeLemmas.{IsLabel-of, label_tree-is}
 use Rattle.omega_hoa_label.proofs.label.Label.from_postfix.Goals as goal
 

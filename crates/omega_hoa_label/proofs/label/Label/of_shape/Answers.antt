@@ -1,5 +1,5 @@
 -- The nodes of a tree are a label that is neither too deep nor too large.
-use Rattle.std.proofs.Common.{◌≡◌, ◌++◌, length, ap, arith, subst, sym, ◌∙◌}
+use Rattle.std.proofs.Common.{◌++◌, length, ap, arith, subst, sym, ◌∙◌}
 use Rattle.omega_hoa_label.specs.Shape.{FitsALabel, label_tree_of_shape}
 use Rattle.omega_hoa_label.specs.Postfix.{postfix}
 use Rattle.omega_hoa_label.proofs.LabelLemmas.{length-postfix}

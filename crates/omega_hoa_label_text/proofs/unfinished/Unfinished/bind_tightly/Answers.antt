@@ -18,7 +18,7 @@ loop-pending-smaller c =
 
 pub returns-in-And-clause-ok : goal.returns-in-And-clause-ok
 returns-in-And-clause-ok c whole left has =
-    subst (λ names. Has conjunctive whole left c.conjoin.new.self.depth c.conjoin.new.self.nodes.items names c.conjoin.new.self.pending) (sym c.in_ok-conjoin-in-And.ensures.names)
+    subst (λ names. Has conjunctive whole left c.conjoin.new.self.depth c.conjoin.new.self.nodes names c.conjoin.new.self.pending) (sym c.in_ok-conjoin-in-And.ensures.names)
     (has_conjoined whole left _ _ _ _ _ _ _ _
     (popped _ _ _ _ _ _ c.in-Some.ensures c.in-And.is c.pop-in-And.ensures ∙ ap (λ rest. And c.in-And.left ∷ rest) (sym c.in_ok-conjoin-in-And.ensures.pending))
     c.in_ok-conjoin-in-And.ensures.nodes c.in_ok-conjoin-in-And.ensures.depth (c.loop-pending.invariant whole left has))
