@@ -62,7 +62,15 @@ pub(crate) fn write_answer<W: Output, E: Output>(
         every: LIFTS_BETWEEN_REPORTS,
         sound: errors.failures(),
     };
-    let made = answer(alloc, command, texts, task.budget, searching, &lines, errors);
+    let made = answer(
+        alloc,
+        command,
+        texts,
+        task.budget,
+        searching,
+        &lines,
+        errors,
+    );
     write_made(made, output)
 }
 
