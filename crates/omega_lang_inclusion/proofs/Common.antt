@@ -1,5 +1,5 @@
 -- Whether the answer to an intersection is words that both automata accept.
-use Rattle.std.proofs.Common.{◌≡◌, ◌↔◌, IsTrue, refl}
+use Rattle.std.proofs.Common.{◌↔◌, IsTrue, refl}
 use Rattle.std.proofs.lemmas.Bool.{false≢true}
 use Rattle.omega_hoa_automaton.specs.Automaton.{Description}
 use Rattle.omega_lang_intersection.specs.Intersection.{IsIntersection}

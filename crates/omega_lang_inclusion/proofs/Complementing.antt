@@ -1,5 +1,5 @@
 -- What the intersection with a complement says of two automata.
-use Rattle.std.proofs.Common.{◌≡◌, ◌⊎◌, inl, inr, ℕ, List, sym, subst}
+use Rattle.std.proofs.Common.{◌⊎◌, inl, inr, ℕ, List, sym, subst}
 use Rattle.std.specs.List.{AllByRecursion}
 use Rattle.omega_text.specs.hoa.Forms.{IsQuotable}
 use Rattle.omega_hoa_automaton.specs.Automaton.{Description}

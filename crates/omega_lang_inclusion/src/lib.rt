@@ -27,7 +27,7 @@ pub use containment::Containment;
 pub use equality::{Equality, decide_equality, equality_of};
 pub use making::word_automaton;
 pub use membership::Membership;
-pub use some_word::accepts_some;
 pub use omega_hoa_automaton::{Automaton, Refusal};
 pub use omega_lang_intersection::{Example, Intersection};
 pub use omega_lang_lasso_word::SymbolicWord;
+pub use some_word::accepts_some;

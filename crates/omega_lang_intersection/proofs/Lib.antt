@@ -1,4 +1,4 @@
--- Lemmas of the intersection: words along a lasso, strings, labels and names, the product that is not made, and answers.
+-- Lemmas of the intersection: words along a lasso, strings, labels, names, the product that is not made, and answers.
 pub mod Along
 pub mod Strings
 pub mod Conjuncts

@@ -8,7 +8,7 @@ use Rattle.indexmap.specs.IndexSet.{insert_all, insert_key}
 use Rattle.omega_hoa_automaton.specs.Automaton.{Description, has_repeat}
 use Rattle.omega_hoa_edges.specs.Limits.{most_states}
 use Rattle.omega_lang_product.specs.Pairs.{AreReached, Pair, found_after, pair_number, same_pair, start_pairs, targets_of}
-use Rattle.omega_lang_product.specs.Refusing.{AreReachable, IsReachable, start, step}
+use Rattle.omega_lang_product.specs.Refusing.{AreReachable, start, step}
 use Rattle.omega_lang_product.proofs.Membership.{Contains-cases, Contains-here, Contains-nothing, Contains-there}
 
 pub append_nil : {X : Type 0} (xs : List X) → xs ++ [] ≡ xs

@@ -1,7 +1,7 @@
 -- The refusals of a product and of its graph: `UniversalBranch`, or `TooManyPropositions` if it is undecided whether
 -- two labels can hold together, or `TooLarge` if a limit would be passed, or want of memory. A graph has no labels, and
 -- no text is made of it: limits of these refuse the product alone.
-use Rattle.std.specs.Prelude.{◌≡◌, ◌<◌, ◌⊎◌, ℕ, ◌+◌, ◌||◌, true, false, List}
+use Rattle.std.specs.Prelude.{◌≡◌, ◌<◌, ◌⊎◌, ◌+◌, ◌||◌, true, false, List}
 use Rattle.std.specs.Prelude.{length, Contains, Some, sum_by}
 use Rattle.omega_text.specs.Cases.{never, or_memory, or_task}
 use Rattle.omega_text.specs.Limits.{most_number}
