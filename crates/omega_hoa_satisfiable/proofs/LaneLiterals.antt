@@ -1,5 +1,5 @@
 -- The lanes of words in which literals hold, and what they say of a label that is a conjunction of them.
-use Rattle.std.proofs.Common.{◌≡◌, ◌==◌, ◌⊎◌, inl, inr, ℕ, ◌+◌, ◌-◌, ◌*◌, ◌/◌, ◌%◌, ◌^◌, ◌<◌, ◌≤◌, Bool, true, false, ◌&&◌, ap, arith, bit_and, bit_xor, cond, eq-eqb, eqb, eqb-true, min, refl, subst, sym, ◌∙◌, w64}
+use Rattle.std.proofs.Common.{◌≡◌, ◌==◌, inl, inr, ℕ, ◌+◌, ◌-◌, ◌*◌, ◌/◌, ◌%◌, ◌^◌, ◌<◌, ◌≤◌, Bool, true, false, ap, arith, bit_and, bit_xor, eq-eqb, eqb, eqb-true, min, refl, subst, sym, ◌∙◌, w64}
 use Rattle.std.specs.Int.{bit_at, bit_not}
 use Rattle.std.proofs.lemmas.Bool.{cases_Bool, cases_lt, cond-false, cond-true, false≢true}
 use Rattle.std.proofs.lemmas.Nat.{and_le_l, shr-shr}
@@ -130,6 +130,10 @@ no-bits word within none = elim (cases_Bool (word == 0)) [
       absurd (false≢true (sym (none lane.0 lane.1.0) ∙ lane.1.1))
 ]
 
+-- a part of a word is a word
+small-of : (word mask : ℕ) → word < 2 ^ 64 → bit_and word mask < 2 ^ 64
+small-of word mask within = omega (arith, and_le_l word mask, within)
+
 same-bool : (a b : Bool) → (a ≡ true → b ≡ true) → (b ≡ true → a ≡ true) → a ≡ b
 same-bool true b there back = sym (there refl)
 same-bool false true there back = back refl
@@ -146,10 +150,10 @@ module _ (tree : LabelTree) (literals : Literals) (lanes : ℕ) (are : AreLitera
   big = omega (arith, small)
 
   -- the bits of the two masks
-  held-mask : ℕ
+  abbrev held-mask : ℕ
   held-mask = bit_and (literals.held / 2 ^ 6) (bit_not w64 (number / 64))
 
-  unheld-mask : ℕ
+  abbrev unheld-mask : ℕ
   unheld-mask = bit_and (literals.unheld / 2 ^ 6) (number / 64)
 
   held-bit : (q : ℕ) → q < 64 → bit_at held-mask q ≡ min (bit_at (literals.held / 2 ^ 6) q) (1 - bit_at (number / 64) q)
@@ -234,10 +238,10 @@ module _ (tree : LabelTree) (literals : Literals) (lanes : ℕ) (are : AreLitera
       ])
 
   held-small : held-mask < 2 ^ 64
-  held-small = omega (arith, and_le_l (literals.held / 2 ^ 6) (bit_not w64 (number / 64)), held-within)
+  held-small = small-of (literals.held / 2 ^ 6) (bit_not w64 (number / 64)) (omega (arith, held-within))
 
   unheld-small : unheld-mask < 2 ^ 64
-  unheld-small = omega (arith, and_le_l (literals.unheld / 2 ^ 6) (number / 64), unheld-within)
+  unheld-small = small-of (literals.unheld / 2 ^ 6) (number / 64) (omega (arith, unheld-within))
 
   true-lane : truth (valuation number) tree ≡ true → valuation (lanes_in literals lanes (number / 64)) (number % 64) ≡ true
   true-lane holds =

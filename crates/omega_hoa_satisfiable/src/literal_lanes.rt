@@ -1,7 +1,8 @@
 //! The lanes of words in which literals hold. A lane is that of a valuation, 64 to a block.
 
 ghost use Rattle.std.specs.Prelude.{◌≡◌, ◌<◌};
-ghost use Rattle.omega_hoa_satisfiable.specs.private.LiteralLanes.{AreAgreeing, hold_in, lanes_if, lanes_in as block_lanes};
+ghost use Rattle.omega_hoa_satisfiable.specs.private.LiteralLanes.{AreAgreeing, hold_in, lanes_if};
+ghost use Rattle.omega_hoa_satisfiable.specs.private.LiteralLanes.{lanes_in as block_lanes};
 
 use crate::literals::Literals;
 use crate::mentioned::mask;

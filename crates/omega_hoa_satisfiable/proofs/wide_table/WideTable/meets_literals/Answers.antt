@@ -9,7 +9,7 @@ pub returns-then-bits_in_both-ne0 : goal.returns-then-bits_in_both-ne0
 returns-then-bits_in_both-ne0 c =
     λ one another is low are. (
       λ _. shared-block one another _ _ c.loop-block.block c.bits_in_both.result (table-truths one c.args.self.now is)
-          (literal-truths another c.args.literals c.low_lanes-lanes.result low are c.ranges.literals.held.fits c.ranges.literals.unheld.fits c.low_lanes-lanes.ensures)
+          (literal-truths another c.args.literals c.low_lanes-lanes.result low are (omega arith) (omega arith) c.low_lanes-lanes.ensures)
           c.loop-block-test.true
           (c.bits_in_both.ensures ∙ rw (c.word_at-word.ensures, c.as_slice.ensures.value, c.lanes_in.ensures) refl)
           c.bits_in_both.type_inv c.if-bits_in_both-ne0.true,
@@ -22,6 +22,6 @@ returns c =
       λ none. absurd (false≢true none),
       λ satisfied.
           absurd (none-shared one another _ _ (table-truths one c.args.self.now is)
-          (literal-truths another c.args.literals c.low_lanes-lanes.result low are c.ranges.literals.held.fits c.ranges.literals.unheld.fits c.low_lanes-lanes.ensures)
+          (literal-truths another c.args.literals c.low_lanes-lanes.result low are (omega arith) (omega arith) c.low_lanes-lanes.ensures)
           (λ block within. c.loop-block.invariant block (omega (arith, within, c.loop-block-test.false))) satisfied),
     )
