@@ -1,6 +1,7 @@
 -- Lemmas, by what they are about.
 pub mod Branching
 pub mod Cubes
+pub mod LaneLiterals
 pub mod Leading
 pub mod LiteralBits
 pub mod Parities

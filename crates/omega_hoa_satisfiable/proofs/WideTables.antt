@@ -100,8 +100,8 @@ number_at block lane = 64 * block + lane
 
 -- the bits of words are the truth of a label that mentions no other
 pub record AreTruths (words : ℕ → ℕ) (tree : LabelTree) : Type 0 where
-  low : MentionsLow tree
-  agrees : (number : ℕ) → number < 4096 → on (words (number / 64)) (number % 64) ≡ truth (valuation number) tree
+  pub low : MentionsLow tree
+  pub agrees : (number : ℕ) → number < 4096 → on (words (number / 64)) (number % 64) ≡ truth (valuation number) tree
 
 -- those of its truth table
 pub table-truths : (tree : LabelTree) (table : WideTable) → IsWideTable tree table → AreTruths (λ block. get_or table.words.items block 0) tree

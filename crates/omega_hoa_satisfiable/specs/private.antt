@@ -4,6 +4,7 @@ pub mod Among
 pub mod Branching
 pub mod Leading
 pub mod Encoding
+pub mod LiteralLanes
 pub mod Pending
 pub mod ReadLiterals
 pub mod Remaining

@@ -3,9 +3,10 @@
 //! A conjunction of literals is two sets of bits (`literals`). A label that mentions few propositions is judged under
 //! all their valuations (`satisfying`), 64 at once in the bits of a word (`words`, `mentioned`), and so are two labels
 //! together (`together`). Those under the valuations of the first six propositions are its truth table (`tables`), and
-//! those of the first twelve its wide table (`wide_table`). Another label is turned into steps of a search (`steps`,
-//! `encoding`) part by part (`part`, `exits`), while left parts wait on a stack (`left_parts`). The search goes from
-//! step to step (`search`), and its open branches lie on a stack too (`branches`).
+//! those of the first twelve its wide table (`wide_table`), with which literals are compared lane by lane
+//! (`literal_lanes`). Another label is turned into steps of a search (`steps`, `encoding`) part by part (`part`,
+//! `exits`), while left parts wait on a stack (`left_parts`). The search goes from step to step (`search`), and its open
+//! branches lie on a stack too (`branches`).
 //!
 //! docs/formats.md says when each [`Refusal`] comes.
 #![tactic(auto)]
@@ -17,6 +18,7 @@ mod exits;
 mod laws;
 mod left_parts;
 mod limits;
+mod literal_lanes;
 mod literals;
 mod mentioned;
 mod part;

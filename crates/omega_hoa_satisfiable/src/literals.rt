@@ -15,8 +15,8 @@ use omega_hoa_label::{Label, LabelNode, ROOM};
 /// the proposition p.
 #[derive(Clone, Copy, Debug, PartialEq, Eq)]
 pub struct Literals {
-    held: u64,
-    unheld: u64,
+    pub(crate) held: u64,
+    pub(crate) unheld: u64,
 }
 
 impl Literals {

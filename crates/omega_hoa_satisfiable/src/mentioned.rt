@@ -130,7 +130,7 @@ fn pattern(block: u64, place: usize) -> u64
 }
 
 /// Returns the word whose bits count up at `place`, which is below six.
-fn mask(place: usize) -> u64
+pub(crate) fn mask(place: usize) -> u64
     ensures { result ≡ mask place }
 {
     match place {

@@ -5,11 +5,14 @@ ghost use Rattle.std.specs.Prelude.{IfOk, IfSome, IsOkUnless, IsTrue};
 ghost use Rattle.std.specs.List.{list_all};
 ghost use Rattle.omega_hoa_expression.specs.Limits.{most_depth};
 ghost use Rattle.omega_hoa_label.specs.Label.{LabelTree, conjunction};
+ghost use Rattle.omega_hoa_satisfiable.specs.Literals.{AreLiteralsOf};
 ghost use Rattle.omega_hoa_satisfiable.specs.Satisfiable.{IsSatisfiable};
 ghost use Rattle.omega_hoa_satisfiable.specs.Tables.{IsWideTable, MentionsLow};
 ghost use Rattle.omega_hoa_satisfiable.specs.private.Words.{is_low, peak};
 ghost use Rattle.omega_hoa_satisfiable.specs.private.WideWords.{AreNodesOf, AreWords};
 
+use crate::literal_lanes::{lanes_in, low_lanes};
+use crate::literals::Literals;
 use crate::mentioned::Mentioned;
 use crate::satisfying::word_of;
 use crate::tables::bits_in_both;
@@ -58,7 +61,8 @@ impl WideTable {
     }
 
     /// Whether the label of this table and `label` can be true together, or none if `label` mentions a proposition from
-    /// twelve on. Takes no memory, and at most 64 passes over `label`.
+    /// twelve on. Takes no memory. A conjunction of literals is gone through a few times, and another label at most 64
+    /// times.
     pub fn meets_label(&self, label: &Label) -> Option<bool>
         ensures { IfSome result (λ possible. (one : LabelTree) → IsWideTable one self.now
             → IsTrue possible ↔ IsSatisfiable (conjunction one label.now)) }
@@ -66,8 +70,26 @@ impl WideTable {
         if !mentions_low(label) {
             return None;
         }
+        if let Some(literals) = Literals::of(label) {
+            return Some(self.meets_literals(literals));
+        }
         let mut room = ROOM;
         Some(self.meets_nodes(label.nodes(&mut room)))
+    }
+
+    /// Whether the label of this table and one of `literals` can be true together.
+    fn meets_literals(&self, literals: Literals) -> bool
+        ensures { (one : LabelTree) (another : LabelTree) → IsWideTable one self.now → MentionsLow another
+            → AreLiteralsOf another literals → IsTrue result ↔ IsSatisfiable (conjunction one another) }
+    {
+        let lanes = low_lanes(literals);
+        for block in 0..WORDS {
+            let word = word_at(self.words.as_slice(), block);
+            if bits_in_both(word, lanes_in(literals, lanes, block)) != 0 {
+                return true;
+            }
+        }
+        false
     }
 
     /// Whether the label of this table and that of `nodes`, in postfix order, can be true together.
