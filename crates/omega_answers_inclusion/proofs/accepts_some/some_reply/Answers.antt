@@ -1,6 +1,4 @@
 -- the answer that was decided is written, or memory is wanting
-use Rattle.omega_hoa_expression.proofs.PassingLemmas.{error_then}
-use Rattle.omega_lang_inclusion.specs.SomeWord.{oversized}
 use Rattle.omega_answers_inclusion.proofs.accepts_some.some_reply.Goals as goal
 
 pub returns-clause-verdict : goal.returns-clause-verdict
