@@ -38,7 +38,10 @@ pub fn accepts_text(
     ensures refused { IfErr result (IsAcceptsRefused word.now text.now) }
 {
     let read = read_word_and_automaton(alloc, word, text)?;
-    let WordAndAutomaton { symbolic, automaton } = read;
+    let WordAndAutomaton {
+        symbolic,
+        automaton,
+    } = read;
     membership_verdict(alloc, symbolic, &automaton, explain)
 }
 

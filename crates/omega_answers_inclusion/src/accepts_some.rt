@@ -31,7 +31,10 @@ pub fn accepts_some_text(
     ensures refused { IfErr result (IsAcceptsSomeRefused word.now text.now) }
 {
     let read = read_word_and_automaton(alloc, word, text)?;
-    let WordAndAutomaton { symbolic, automaton } = read;
+    let WordAndAutomaton {
+        symbolic,
+        automaton,
+    } = read;
     match some_reply(alloc, symbolic, &automaton, explain) {
         Ok(made) => Ok(made),
         Err(refusal) => Err(Refused::from(refusal)),
