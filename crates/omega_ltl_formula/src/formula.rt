@@ -1,0 +1,62 @@
+//! A formula, and how it is kept.
+
+ghost use Rattle.std.specs.Prelude.{◌≡◌};
+
+use crate::node::FormulaNode;
+use omega_text::{ByteString, Seq};
+use std::marker::Model;
+
+/// A formula of linear temporal logic: at most 256 deep, with at most 4,096 atoms and operators and at most 64 names.
+///
+/// It is a table of nodes. The operands of a node stand before it, so that one loop over the table sees the parts of
+/// each node first, and nothing recurses. Equal parts may be one node.
+#[derive(Debug, Drop)]
+pub struct Formula {
+    pub(crate) names: Seq<ByteString>,
+    pub(crate) nodes: Seq<FormulaNode>,
+    pub(crate) root: usize,
+}
+
+impl Model for Formula {
+    ghost use Rattle.omega_ltl_formula.specs.Table.{IsFormula, NumberedFormula, numbered};
+
+    ghost Value = { NumberedFormula };
+
+    ghost view = { λ f. numbered f.names f.nodes f.root };
+
+    ghost invariant = { λ f. IsFormula (numbered f.names f.nodes f.root) };
+}
+
+impl Formula {
+    ghost use Rattle.omega_ltl_formula.specs.Table.{IsFormula};
+
+    /// Returns the names of its propositions, each once, by their numbers.
+    pub fn names(&self) -> &[ByteString]
+        ensures { result.now ≡ self.now.table.names }
+    {
+        self.names.as_slice()
+    }
+
+    /// Returns its nodes, by their numbers: the operands of a node stand before it.
+    pub fn nodes(&self) -> &[FormulaNode]
+        ensures { result.now ≡ self.now.table.nodes }
+    {
+        self.nodes.as_slice()
+    }
+
+    /// Returns the number of the node that the formula is.
+    pub fn root(&self) -> usize
+        ensures { result ≡ self.now.root }
+    {
+        self.root
+    }
+
+    /// States what each formula keeps: the order of its nodes, and the limits. Does nothing: it hands on the type's
+    /// invariant.
+    pub fn keeps_limits(&self)
+        ensures { IsFormula self.now }
+    {
+        // A field is read, since only then a proof knows the invariant.
+        let _root = self.root;
+    }
+}
