@@ -40,8 +40,9 @@ no_literal name true h = false≢true (sym (none_in_zero name) ∙ h)
 pub literal_cube : (empty cube : Cube) (name : ℕ) (negated : Bool) → empty ≡ no_literals → IsCubeWith empty name negated cube → IsLiteralCube name negated cube
 literal_cube empty cube name negated none with other sign = (
   λ h. elim ((with other sign).0 h) [
-      inl old ↦ absurd (no_literal other sign (subst (λ (c : Cube). HasLiteral c other sign) none old))
-    | inr same ↦ same ],
+    | inl old ↦ absurd (no_literal other sign (subst (λ (c : Cube). HasLiteral c other sign) none old))
+    | inr same ↦ same
+  ],
   λ same. (with other sign).1 (inr same),
 )
 

@@ -61,7 +61,8 @@ shape_beyond shapes d beyond = get_or_past shapes d (Now (Constant false)) beyon
 
 pub shapes_below : (table : FormulaTable) (shapes : List Shape) → IsTable table → length table.names ≤ 64 → AreShapesOf table.nodes shapes → AreGrounded shapes
 shapes_below table shapes is few are d = elim (cases_lt d (length shapes)) [
-    inl low ↦ subst (IsShapeBelow d) (sym (are.each d low))
-        (node_below d (length table.names) few (node_at table.nodes (d / 2)) (is_negated d)
-        (is.placed (d / 2) (let e : length shapes ≡ 2 * length table.nodes = are.count in omega arith)))
-  | inr high ↦ subst (IsShapeBelow d) (sym (shape_beyond shapes d high)) tt ]
+  | inl low ↦ subst (IsShapeBelow d) (sym (are.each d low))
+      (node_below d (length table.names) few (node_at table.nodes (d / 2)) (is_negated d)
+      (is.placed (d / 2) (let e : length shapes ≡ 2 * length table.nodes = are.count in omega arith)))
+  | inr high ↦ subst (IsShapeBelow d) (sym (shape_beyond shapes d high)) tt
+]
