@@ -11,6 +11,7 @@ pub mod AcceptedWords
 pub mod Paths
 pub mod Texts
 pub mod Lettering
+pub mod CommonWords
 pub mod Answering
 pub mod Below
 pub mod Edges

@@ -1,6 +1,7 @@
 -- Containment, and words that automata accept: what public contracts cite, and in `private` what private contracts
 -- alone cite.
 pub mod Containing
+pub mod Common
 pub mod Equality
 pub mod Refusing
 pub mod private

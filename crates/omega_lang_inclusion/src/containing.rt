@@ -2,11 +2,12 @@
 
 ghost use Rattle.std.specs.Prelude.{◌≡◌, ◌<◌, ◌^◌, get_or, length, map, IfErr, IfOk, IsOkUnless, OnOk};
 ghost use Rattle.omega_hoa_automaton.specs.Automaton.{Description};
-ghost use Rattle.omega_lang_inclusion.specs.Containing.{IsContainment, IsCounterexample};
+ghost use Rattle.omega_lang_inclusion.specs.Common.{IsCommonExample};
+ghost use Rattle.omega_lang_inclusion.specs.Containing.{IsContainment};
 ghost use Rattle.omega_lang_inclusion.specs.Refusing.{AreComparable, IsContainmentRefusal};
 ghost use Rattle.omega_lang_inclusion.specs.private.Letters.{joint_word as word_of_joints};
 ghost use Rattle.omega_lang_inclusion.specs.private.Telling.{IsComplemented, IsDifference};
-ghost use Rattle.omega_lang_inclusion.specs.private.Telling.{IsLassoOn, IsVerdictOn};
+ghost use Rattle.omega_lang_inclusion.specs.private.Telling.{IsLassoOn, IsMeeting, IsVerdictOn};
 ghost use Rattle.omega_lang_product.specs.PairGraph.{IsPairGraph};
 ghost use Rattle.omega_lang_product.specs.Refusing.{HaveNoBranch};
 
@@ -120,9 +121,8 @@ fn containment_of_verdict(
     }
 }
 
-/// Returns the counterexample that a lasso of the product of `one` with `rest`, the complement of another automaton,
-/// is.
-fn example_of(
+/// Returns the words along a lasso of the product of `one` with `rest`, and the lasso of `one`.
+pub(crate) fn example_of(
     alloc: Global,
     one: &Automaton,
     rest: &Automaton,
@@ -132,8 +132,8 @@ fn example_of(
 ) -> Result<Counterexample, Refusal>
     requires named { length graph.now.propositions.items < 2 ^ 32 }
     requires lasso { IsLassoOn graph.now stem.now cycle.now }
-    ensures example { IfOk result (λ example. (other : Description) →
-        IsDifference one.now other rest.now graph.now → IsCounterexample one.now other example) }
+    ensures example { IfOk result (λ example. IsMeeting one.now rest.now graph.now
+        → IsCommonExample one.now rest.now example) }
     ensures memory { IsOkUnless result Refusal.Memory }
 {
     let word = word_along(alloc, one, rest, graph, stem, cycle)?;

@@ -3,12 +3,14 @@
 //! A counterexample is a lasso of the product with a complement, of which only the graph is made. Each edge of the
 //! graph has the numbers of the two edges that it takes together. By these its letters are found (`letters`).
 //!
-//! Whether an automaton accepts each word that a symbolic word admits is decided so too, by the automaton of the word.
+//! Whether an automaton accepts each word that a symbolic word admits is decided so too, by the automaton of the word,
+//! and words that two automata both accept are found so without a complement (`common`).
 //!
 //! docs/formats.md says when each refusal comes.
 #![tactic(auto)]
 
 mod accepting;
+mod common;
 mod containing;
 mod containment;
 mod equality;
@@ -24,6 +26,7 @@ mod searching;
 mod states;
 
 pub use accepting::accepts;
+pub use common::common_words;
 pub use containing::decide_containment;
 pub use containment::{Containment, Counterexample};
 pub use equality::{Equality, decide_equality, equality_of};

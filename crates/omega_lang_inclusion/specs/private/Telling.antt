@@ -26,6 +26,13 @@ pub record IsDifference (one other complement : Description) (graph : PairGraph)
   pub unbranched : HaveNoBranch one complement
   pub graph_is : IsPairGraph one complement graph
 
+-- a graph is that of the product of two automata
+pub record IsMeeting (one other : Description) (graph : PairGraph) : Type 0 where
+  pub is_one : IsAutomaton one
+  pub is_other : IsAutomaton other
+  pub unbranched : HaveNoBranch one other
+  pub graph_is : IsPairGraph one other graph
+
 -- an automaton has the edges of a graph, all of them usable
 pub record HasEdgesOf (graph : PairGraph) (a : Description) : Type 0 where
   pub tabled : IsTabled graph.starts.items graph.edges.ends.items
