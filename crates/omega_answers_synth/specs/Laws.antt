@@ -88,8 +88,8 @@ YesExcludesUnrealizable = LimitedPrincipleOfOmniscience
     → IsDecisionAnswer file other line → IsAutomatonText file specification
     → IsYes exit output → other ≡ No → ⊥
 
--- what is written of a counter-strategy is `yes` exactly if the automaton of the one text is one for the specification of
--- the other
+-- what is written of a counter-strategy is `yes` exactly if the automaton of the one text is one for the specification
+-- of the other
 abbrev pub CounterAnswersAreExact : Type 0
 CounterAnswersAreExact = (file input output : List ℕ) (explain : Bool) (exit : Exit)
     (specification strategy : Description) (names : List (List ℕ))
@@ -97,8 +97,8 @@ CounterAnswersAreExact = (file input output : List ℕ) (explain : Bool) (exit :
     → IsAutomatonText input strategy → AreSystemNames specification strategy names
     → IsYes exit output ↔ IsCounterStrategyFor specification strategy names
 
--- no automaton is a controller for a deterministic specification for which another is a counter-strategy, if the item of
--- the specification says which propositions the system controls
+-- no automaton is a controller for a deterministic specification for which another is a counter-strategy, if the item
+-- of the specification says which propositions the system controls
 abbrev pub ControllersExcludeStrategies : Type 0
 ControllersExcludeStrategies =
     (specification controller strategy : Description) (controlled stated : List ℕ)

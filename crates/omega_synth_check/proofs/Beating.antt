@@ -1,5 +1,5 @@
--- By a counter-strategy the environment has a strategy that beats the specification: it keeps track of the two states to
--- which both have come, and gives the letter that it has there.
+-- By a counter-strategy the environment has a strategy that beats the specification: it keeps track of the two states
+-- to which both have come, and gives the letter that it has there.
 use Rattle.std.proofs.Common.{◌≡◌, ℕ, zero, suc, ◌+◌, ◌<◌, ◌≤◌, ◌⊎◌, inl, inr, Bool, false, if◌then◌else◌, nat_lt, List, [], ◌∷◌, length, get_or, Contains, refl, sym, ap, subst, ◌∙◌, arith}
 use Rattle.std.specs.List.{position_or_len}
 use Rattle.std.specs.Str.{bytes_eq}

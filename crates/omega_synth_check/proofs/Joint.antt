@@ -1,5 +1,5 @@
--- The product of a specification with the complement of a strategy: where it goes at a letter, its two sides go, and its
--- ways out enter the sink.
+-- The product of a specification with the complement of a strategy: where it goes at a letter, its two sides go, and
+-- its ways out enter the sink.
 use Rattle.std.proofs.Common.{◌≡◌, ◌==◌, ◌&&◌, ℕ, ◌+◌, Bool, true, false, not, List, [], ◌∷◌, get_or, map, Contains, Option, Some, slice_get, refl, sym, ap, ap₂, subst, ◌∙◌, arith}
 use Rattle.std.specs.Prelude.{IfSome}
 use Rattle.std.specs.Option.{option_or}

@@ -1,4 +1,5 @@
--- The product of a specification with the complement of a counter-strategy: its ways out, and what a search of it shows.
+-- The product of a specification with the complement of a counter-strategy: its ways out, and what a search of it
+-- shows.
 use Rattle.std.specs.Prelude.{◌≡◌, ℕ, ◌==◌, ◌&&◌, Bool, false, not, List, get_or, map}
 use Rattle.std.specs.Prelude.{Option, None, Some, slice_index_or}
 use Rattle.omega_hoa_automaton.specs.Automaton.{BodyEdge, Description, IsAutomaton, edge_at}
