@@ -183,12 +183,12 @@ def counter_strategy_fault(asked_of: Parted, kept: Collection[int], letters: dic
     moves = kept_moves(asked_of, kept)
     for state in reached_from(asked_of.starts, moves):
         if state not in letters:
-            return f"state {state} has an answer for each letter, and keeps no edge"
+            return f"state {state} has no letter"
         answers = {move.number for move in asked_of.leaving(state) if asked_of.answers(move, letters[state])}
         if answers != {move.number for move in moves if move.source == state}:
             return f"state {state} keeps other edges than those that answer the letter {sorted(letters[state])}"
         least = first_letter(asked_of, state, answers)
-        if answers and letters[state] != least:
+        if letters[state] != least:
             return f"state {state} has the letter {sorted(letters[state])}, and not {sorted(least)}"
     if has_accepting_walk(list(asked_of.starts), moves, formula_of(asked_of.automaton)[1]):
         return "a closed walk of kept edges is accepted"
@@ -232,6 +232,9 @@ def winner_text(asked_of: Parted, kept: Collection[int], letters: dict[int, Held
                 if letters is not None:
                     label = ("&", letter_label(asked_of, letters[state.number]), label)
                 lines.append([b"[" + written(label) + b"]", b"%d" % numbers[move.targets[0]]])
+        if letters is not None and not any(move.number in kept for move in asked_of.leaving(state.number)):
+            label = letter_label(asked_of, letters[state.number])
+            lines.append([b"[" + written(label) + b"]", b"%d" % numbers[state.number]])
     return b"".join(b" ".join(line) + b"\n" for line in [*lines, [b"--END--"]])
 
 
@@ -252,11 +255,6 @@ class Winner:
         self.kept: set[int] = set()
         self.letters: dict[int, Held] = {}
         self.find()
-        # A state that keeps no edge has a letter without an answer: the text does not say which.
-        for state in reached_from(asked_of.starts, kept_moves(asked_of, self.kept)) - set(self.letters):
-            for given in subsets(asked_of.inputs):
-                if not any(asked_of.answers(move, given) for move in asked_of.leaving(state)):
-                    self.letters.setdefault(state, given)
         try:
             wanted = winner_text(asked_of, self.kept, self.letters if lettered else None)
         except KeyError as missing:
@@ -272,7 +270,12 @@ class Winner:
         bodies = {state.number: state for state in self.own.states}
         for own, state in found:
             waiting = iter(self.asked_of.leaving(state))
-            for edge in bodies[own].edges if own in bodies else []:
+            edges = bodies[own].edges if own in bodies else []
+            if self.lettered and [edge.targets for edge in edges] == [[own]] and self.is_letter(edges[0].label):
+                # No edge answers the letter of the state, which is written on an edge of its own.
+                self.note(bare(edges[0].label), state)
+                continue
+            for edge in edges:
                 move = self.next_like(bare(edge.label or ("t",)), state, waiting)
                 self.kept.add(move.number)
                 after = (edge.targets[0], move.targets[0])
@@ -290,12 +293,21 @@ class Winner:
                 return move
         raise NoWinner(f"state {state} has no edge {written(label)!r} there")
 
+    def is_letter(self, label: Tree | None) -> bool:
+        """Whether a label is a letter of the environment, and no more."""
+        return label is not None and bare(label) == letter_label(self.asked_of, given_in(bare(label)))
+
     def note(self, letter: Tree, state: int) -> None:
         """Notes the letter of a state."""
-        below = {part[1][1] for part in parts_of(letter) if part[0] == "!"}
-        given = frozenset(leaf[1] for leaf in leaves(letter) if leaf[0] == "number") - below
+        given = given_in(letter)
         if letter != letter_label(self.asked_of, given) or self.letters.setdefault(state, given) != given:
             raise NoWinner(f"{written(letter)!r} is not the letter of state {state}")
+
+
+def given_in(letter: Tree) -> Held:
+    """The propositions that hold in a letter: those that it has without a negation."""
+    below = {part[1][1] for part in parts_of(letter) if part[0] == "!" and part[1][0] == "number"}
+    return frozenset(leaf[1] for leaf in leaves(letter) if leaf[0] == "number") - below
 
 
 def parts_of(tree: Tree) -> list[Tree]:

@@ -38,8 +38,8 @@ def winner(states: int, names: bytes, controlled: bytes, body: bytes) -> bytes:
 
 
 ARBITRATES = winner(1, b'2 "r" "g"', b" 1", b"State: 0/[!0|1] 0")
-ASKS = winner(1, b'2 "r" "g"', b"", b"State: 0")
-SURPRISES = winner(3, b'2 "e" "s"', b" 1", b"State: 0/[!0&1] 1/[!0&!1] 2/State: 1/State: 2")
+ASKS = winner(1, b'2 "r" "g"', b"", b"State: 0/[0&!1] 0")
+SURPRISES = winner(3, b'2 "e" "s"', b" 1", b"State: 0/[!0&1] 1/[!0&!1] 2/State: 1/[!0] 1/State: 2/[0] 2")
 SERVES = winner(2, b'1 "s"', b" 0", b"State: 0/[0] 1/State: 1/[0] 0")
 STAYS = winner(1, b'1 "s"', b"", b"State: 0/[!0&!0] 0")
 
@@ -61,18 +61,22 @@ WINNERS: list[Winners] = [
         ("a counter-strategy's label", ARBITRATES.replace(b"[!0|1]", b"[!0&(!0|1)]")),
         ("nothing", b"")]),
     (SERVANT, False, [ASKS], [
-        ("an answer kept", ASKS.replace(b"State: 0\n", b"State: 0\n[0&1&(!0|1)] 0\n")),
-        ("a letter of the system alone", ASKS.replace(b"State: 0\n", b"State: 0\n[1&(!0|1)] 0\n")),
-        ("a label without a letter", ASKS.replace(b"State: 0\n", b"State: 0\n[!0|1] 0\n"))]),
+        ("an answer kept", ASKS.replace(b"[0&!1]", b"[0&1&(!0|1)]")),
+        ("a letter of the system alone", ASKS.replace(b"[0&!1]", b"[1&(!0|1)]")),
+        ("a label without a letter", ASKS.replace(b"[0&!1]", b"[!0|1]")),
+        ("a letter that is answered", ASKS.replace(b"[0&!1]", b"[0&1]")),
+        ("no letter", ASKS.replace(b"[0&!1] 0\n", b""))]),
     (GUESS, False, [SURPRISES], [
         ("a letter that is not the first", SURPRISES.replace(b"[!0&", b"[0&")),
-        ("an answer left out", winner(2, b'2 "e" "s"', b" 1", b"State: 0/[!0&1] 1/State: 1")),
+        ("an answer left out", winner(2, b'2 "e" "s"', b" 1", b"State: 0/[!0&1] 1/State: 1/[!0] 1")),
+        ("no letter of a state without an answer", SURPRISES.replace(b"[!0] 1\n", b"")),
+        ("another letter of a state without an answer", SURPRISES.replace(b"[0] 2", b"[!0] 2")),
         ("two letters of a state", SURPRISES.replace(b"[!0&!1]", b"[0&!1]")),
-        ("no letter", SURPRISES.replace(b"[!0&1]", b"[1]").replace(b"[!0&!1]", b"[!1]")),
+        ("no letter of a state with answers", SURPRISES.replace(b"[!0&1]", b"[1]").replace(b"[!0&!1]", b"[!1]")),
         ("another target", SURPRISES.replace(b"[!0&!1] 2", b"[!0&!1] 1")),
         ("a state not reached", SURPRISES.replace(b"States: 3", b"States: 4")),
         ("an edge that loses", winner(4, b'2 "e" "s"', b" 1", b"State: 0/[!0&1] 1/[!0&!1] 2/State: 1/[0&0] 3/State: 2/"
-                                      b"State: 3/[!0&t] 3"))]),
+                                      b"[0] 2/State: 3/[!0&t] 3"))]),
     (GOALS, True, [SERVES], [
         ("a bad loop besides", SERVES.replace(b"State: 1\n", b"[!0] 0\nState: 1\n")),
         ("a bad loop behind", SERVES.replace(b"--END--", b"[!0] 1\n--END--")),
@@ -194,7 +198,7 @@ STATE = re.compile(rb"^State: .*\n", re.MULTILINE)
 
 
 class Altered:
-    """Alters controllers at random."""
+    """Alters controllers and counter-strategies at random."""
 
     def __init__(self, text: bytes, drawn: random.Random) -> None:
         self.text, self.random = text, drawn

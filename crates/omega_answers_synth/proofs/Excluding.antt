@@ -17,8 +17,10 @@ use Rattle.omega_lang_word_laws.specs.NamedWords.{AcceptsNamed, part_of}
 use Rattle.omega_lang_word_laws.proofs.naming.Named.{accepted_same, own_place}
 use Rattle.omega_synth_controllers.specs.Controllable.{IsControlled, IsStated, has_item}
 use Rattle.omega_synth_controllers.specs.Laws.{CounterStrategiesBeat}
-use Rattle.omega_synth_controllers.specs.Strategies.{Environment, System, is_controlled, joined, so_far, word_against, word_of}
+use Rattle.omega_synth_controllers.specs.Strategies.{Beats, Environment, System, is_controlled, joined, so_far, word_against, word_of}
 use Rattle.omega_synth_controllers.proofs.Letters.{found_listed, listed_found}
+use Rattle.omega_synth_check.specs.CounterJudging.{IsCounterJudgement, IsCounterStrategyFor}
+use Rattle.omega_synth_check.specs.CounterLaws.{CounterJudgementsAreExact, CounterStrategiesForBeat}
 use Rattle.omega_synth_check.specs.Judging.{IsControllerFor, IsJudgement}
 use Rattle.omega_synth_check.specs.Laws.{ControllersRealizeSpecifications, IsNamedOf, JudgementsAreExact}
 use Rattle.omega_synth_check.specs.Refusing.{AcceptsAll}
@@ -27,10 +29,11 @@ use Rattle.omega_io.specs.declared.exit.Exit.{Exit}
 use Rattle.omega_io.specs.declared.exit.Exit.TheVariants.{Done, No}
 use Rattle.omega_answers_synth.specs.Decide.{IsVerdict}
 use Rattle.omega_synth_controllers.specs.Controllers.{HasCounterStrategy}
-use Rattle.omega_answers_synth.specs.Laws.{ControllersForExcludeCounterStrategies, YesExcludesUnrealizable}
-use Rattle.omega_answers_synth.specs.Parting.{AreAlike, AreControlledAlike}
+use Rattle.omega_answers_synth.specs.Laws.{ControllersExcludeStrategies, ControllersForExcludeCounterStrategies, YesExcludesUnrealizable, YesExcludesYes}
+use Rattle.omega_answers_synth.specs.Parting.{AreAlike, AreControlledAlike, AreSystemNames}
 use Rattle.omega_answers_synth.proofs.ControllerStated.{controlled_one}
-use Rattle.omega_answers_synth.proofs.Exact.{done_controls}
+use Rattle.omega_answers_synth.proofs.Exact.{done_beats, done_controls}
+use Rattle.omega_answers_synth.proofs.Named.{named_numbers}
 
 -- tests that agree are one
 same_test : (ones others : List ℕ) (p q : ℕ) → Contains ones p ↔ Contains others q → is_controlled ones p ≡ is_controlled others q
@@ -139,31 +142,75 @@ module _ (ones others : List (List ℕ)) (stated controlled : List ℕ) (environ
           | inr alone ↦ sym (in_others i name alone ∙ ap (other_word i) place)
         ]
 
-pub controllers_for_exclude_counter_strategies : ControllersRealizeSpecifications → CounterStrategiesBeat → ControllersForExcludeCounterStrategies
-controllers_for_exclude_counter_strategies realize beat specification controller controlled stated kept letters is_specification deterministic is_controller
-    all parted item for own_stated counter =
+-- an automaton is no controller for a specification that a strategy of the environment beats
+controllers_are_not_beaten : ControllersRealizeSpecifications → (specification controller : Description) (controlled stated : List ℕ)
+    → IsAutomaton specification → IsAutomaton controller → AcceptsAll controller → AreControlledAlike specification controller controlled
+    → has_item specification ≡ true → IsControllerFor specification controller controlled → IsControlled specification stated
+    → (environment : Environment) → Beats specification stated environment → ⊥
+controllers_are_not_beaten realize specification controller controlled stated is_specification is_controller all parted item for own_stated environment beats =
     let ones : List (List ℕ) = specification.propositions in
     let others : List (List ℕ) = controller.propositions in
     let numbers : parted.stated ≡ stated = controlled_one specification parted.stated stated parted.other own_stated in
     let alike : AreAlike ones others stated controlled =
     subst (λ (listed : List ℕ). AreAlike ones others listed controlled) numbers (parted.alike item) in
-    let against = beat specification stated kept letters is_specification deterministic counter in
     let by = realize specification controller controlled is_controller all for in
-    let named : NamedWord = word ones others stated controlled against.0 by.0 in
-    let same : IsNamedOf controller (word_of controlled by.0 (given ones others stated controlled against.0 by.0)) named =
+    let named : NamedWord = word ones others stated controlled environment by.0 in
+    let same : IsNamedOf controller (word_of controlled by.0 (given ones others stated controlled environment by.0)) named =
     λ i p below.
-    ap (λ (letter : ℕ → Bool). letter p) (sym (other_is ones others stated controlled against.0 by.0 i))
-    ∙ other_part ones others stated controlled against.0 by.0 is_specification.unlike is_controller.unlike alike i p below in
-    let accepted : AcceptsNamed specification named = by.1 (given ones others stated controlled against.0 by.0) named same in
-    let own_accepted : IsAccepted specification (one_word ones others stated controlled against.0 by.0) =
-    accepted_same specification is_specification (part_of ones named) (one_word ones others stated controlled against.0 by.0)
-    (λ i q below. one_part ones others stated controlled against.0 by.0 is_specification.unlike is_controller.unlike alike i q below) accepted in
-    against.1 (own ones others stated controlled against.0 by.0) (record {
+    ap (λ (letter : ℕ → Bool). letter p) (sym (other_is ones others stated controlled environment by.0 i))
+    ∙ other_part ones others stated controlled environment by.0 is_specification.unlike is_controller.unlike alike i p below in
+    let accepted : AcceptsNamed specification named = by.1 (given ones others stated controlled environment by.0) named same in
+    let own_accepted : IsAccepted specification (one_word ones others stated controlled environment by.0) =
+    accepted_same specification is_specification (part_of ones named) (one_word ones others stated controlled environment by.0)
+    (λ i q below. one_part ones others stated controlled environment by.0 is_specification.unlike is_controller.unlike alike i q below) accepted in
+    beats (own ones others stated controlled environment by.0) (record {
       states = own_accepted.states;
       edges = own_accepted.edges;
       accepting = own_accepted.accepting;
-      taken = λ i. subst (CanBeTaken specification (own_accepted.edges i)) (one_is ones others stated controlled against.0 by.0 i) (own_accepted.taken i);
+      taken = λ i. subst (CanBeTaken specification (own_accepted.edges i)) (one_is ones others stated controlled environment by.0 i) (own_accepted.taken i);
     })
+
+pub controllers_for_exclude_counter_strategies : ControllersRealizeSpecifications → CounterStrategiesBeat → ControllersForExcludeCounterStrategies
+controllers_for_exclude_counter_strategies realize beat specification controller controlled stated kept letters is_specification deterministic is_controller
+    all parted item for own_stated counter =
+    let against = beat specification stated kept letters is_specification deterministic counter in
+    controllers_are_not_beaten realize specification controller controlled stated is_specification is_controller all parted item for own_stated against.0 against.1
+
+pub controllers_exclude_strategies : ControllersRealizeSpecifications → CounterStrategiesForBeat → ControllersExcludeStrategies
+controllers_exclude_strategies realize beat specification controller strategy controlled stated names is_specification deterministic is_controller all parted item
+    for own_stated is_strategy all_also system counter =
+    let numbered = named_numbers specification strategy names stated is_specification is_strategy system item own_stated in
+    let against = beat specification strategy names stated is_specification deterministic is_strategy all_also numbered counter in
+    controllers_are_not_beaten realize specification controller controlled stated is_specification is_controller all parted item for own_stated against.0 against.1
+
+pub yes_excludes_yes : AutomataAreOne → MeaningsAreAutomata → JudgementsAreExact → CounterJudgementsAreExact → ControllersExcludeStrategies → YesExcludesYes
+yes_excludes_yes one means exact counter_exact excludes decided file input output explain exit other_input other_output also_explain other_exit specification
+    answer counter_answer read item told also_told =
+    let same : answer.file ≡ specification = one file answer.file specification answer.file_read read in
+    let also : counter_answer.file ≡ specification = one file counter_answer.file specification counter_answer.file_read read in
+    let controller : Description = answer.input in
+    let strategy : Description = counter_answer.input in
+    let right = answer.holds in
+    let verdict = counter_answer.holds in
+    let judged : IsJudgement specification controller right.controlled right.judgement =
+    subst (λ (s : Description). IsJudgement s controller right.controlled right.judgement) same right.right in
+    let for : IsControllerFor specification controller right.controlled =
+    (exact decided specification controller right.controlled right.judgement judged).0
+    (done_controls explain controller right.controlled right.judgement (sym right.reply.0 ∙ told.0)) in
+    let parted : AreControlledAlike specification controller right.controlled =
+    subst (λ (s : Description). AreControlledAlike s controller right.controlled) same right.parted in
+    let system : AreSystemNames specification strategy verdict.names =
+    subst (λ (s : Description). AreSystemNames s strategy verdict.names) also verdict.parted in
+    let deterministic : IsDeterministic specification = subst IsDeterministic also verdict.deterministic in
+    let counter_judged : IsCounterJudgement specification strategy verdict.names verdict.judgement =
+    subst (λ (s : Description). IsCounterJudgement s strategy verdict.names verdict.judgement) also verdict.right in
+    let counter : IsCounterStrategyFor specification strategy verdict.names =
+    (counter_exact specification strategy verdict.names verdict.judgement counter_judged).0
+    (done_beats also_explain verdict.judgement (sym verdict.reply.0 ∙ also_told.0)) in
+    excludes specification controller strategy right.controlled system.stated verdict.names
+    (means read.value.raw specification read.value.means) deterministic (means answer.input_read.value.raw controller answer.input_read.value.means)
+    right.judged.readable.all parted item for system.specified
+    (means counter_answer.input_read.value.raw strategy counter_answer.input_read.value.means) verdict.judged.readable.all system counter
 
 pub yes_excludes_unrealizable : AutomataAreOne → MeaningsAreAutomata → JudgementsAreExact → ControllersForExcludeCounterStrategies → YesExcludesUnrealizable
 yes_excludes_unrealizable one means exact excludes decided file input output line explain exit other specification answer verdict read told unrealizable =

@@ -9,7 +9,9 @@ pub mod Ranges
 pub mod Alike
 pub mod Literals
 pub mod Reported
+pub mod CounterReported
 pub mod ControllerStated
+mod Named
 pub mod Exact
 mod WhoWins
 mod Excluding

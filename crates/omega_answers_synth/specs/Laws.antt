@@ -1,9 +1,10 @@
 -- Laws of the answers of `realize` and of `verify --specification`: who wins the automaton of a text, which texts are
--- called a controller, and what a letter says.
+-- called a controller or a counter-strategy, and what a letter says.
 use Rattle.std.specs.Prelude.{◌≡◌, ◌↔◌, ℕ, ◌<◌, Bool, true, List, Contains, None, codes, length}
 use Rattle.omega_hoa_automaton.specs.Automaton.{Description, IsAutomaton}
 use Rattle.omega_synth_controllers.specs.Controllable.{IsControlled, has_item}
 use Rattle.omega_synth_controllers.specs.Strategies.{Beats, Environment, Realizes, System}
+use Rattle.omega_synth_check.specs.CounterJudging.{IsCounterStrategyFor}
 use Rattle.omega_synth_check.specs.Judging.{IsControllerFor}
 use Rattle.omega_synth_check.specs.Laws.{IsKeptPart}
 use Rattle.omega_synth_check.specs.Refusing.{AcceptsAll}
@@ -19,9 +20,10 @@ use Rattle.omega_synth_text.specs.Reaching.{TellsReached}
 use Rattle.omega_synth_text.specs.Winner.{winner}
 use Rattle.omega_text.specs.Omniscience.{LimitedPrincipleOfOmniscience}
 use Rattle.omega_io.specs.Answer.{IsYes}
+use Rattle.omega_answers_synth.specs.Counter.{IsCounterAnswer}
 use Rattle.omega_answers_synth.specs.Decide.{IsDecisionAnswer}
 use Rattle.omega_answers_synth.specs.Letter.{letter_text}
-use Rattle.omega_answers_synth.specs.Parting.{AreControlledAlike}
+use Rattle.omega_answers_synth.specs.Parting.{AreControlledAlike, AreSystemNames}
 use Rattle.omega_answers_synth.specs.Verify.{IsControllerAnswer}
 use Rattle.omega_answers_synth.specs.Winner.{IsWinnerAnswer}
 
@@ -85,6 +87,37 @@ YesExcludesUnrealizable = LimitedPrincipleOfOmniscience
     (specification : Description) → IsControllerAnswer file input explain exit output
     → IsDecisionAnswer file other line → IsAutomatonText file specification
     → IsYes exit output → other ≡ No → ⊥
+
+-- what is written of a counter-strategy is `yes` exactly if the automaton of the one text is one for the specification
+-- of the other
+abbrev pub CounterAnswersAreExact : Type 0
+CounterAnswersAreExact = (file input output : List ℕ) (explain : Bool) (exit : Exit)
+    (specification strategy : Description) (names : List (List ℕ))
+    → IsCounterAnswer file input explain exit output → IsAutomatonText file specification
+    → IsAutomatonText input strategy → AreSystemNames specification strategy names
+    → IsYes exit output ↔ IsCounterStrategyFor specification strategy names
+
+-- no automaton is a controller for a deterministic specification for which another is a counter-strategy, if the item
+-- of the specification says which propositions the system controls
+abbrev pub ControllersExcludeStrategies : Type 0
+ControllersExcludeStrategies =
+    (specification controller strategy : Description) (controlled stated : List ℕ)
+    (names : List (List ℕ)) → IsAutomaton specification → IsDeterministic specification
+    → IsAutomaton controller → AcceptsAll controller
+    → AreControlledAlike specification controller controlled → has_item specification ≡ true
+    → IsControllerFor specification controller controlled → IsControlled specification stated
+    → IsAutomaton strategy → AcceptsAll strategy → AreSystemNames specification strategy names
+    → IsCounterStrategyFor specification strategy names → ⊥
+
+-- so, by the limited principle of omniscience, `yes` is not written of both for the same specification
+abbrev pub YesExcludesYes : Type 0
+YesExcludesYes = LimitedPrincipleOfOmniscience
+    → (file input output : List ℕ) (explain : Bool) (exit : Exit)
+    (other_input other_output : List ℕ) (also_explain : Bool) (other_exit : Exit)
+    (specification : Description) → IsControllerAnswer file input explain exit output
+    → IsCounterAnswer file other_input also_explain other_exit other_output
+    → IsAutomatonText file specification → has_item specification ≡ true
+    → IsYes exit output → IsYes other_exit other_output → ⊥
 
 -- the environment gives a letter: its propositions hold as the letter says
 abbrev pub GivesLetter : Description → (controlled letter : List ℕ) → (ℕ → Bool) → Type 0

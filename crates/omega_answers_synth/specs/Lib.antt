@@ -10,6 +10,7 @@ pub mod Parting
 pub mod Letter
 pub mod Reason
 pub mod Verify
+pub mod Counter
 pub mod Laws
 pub use Rattle.omega_text.specs.Cases
 pub use Rattle.omega_text.specs.Refusal

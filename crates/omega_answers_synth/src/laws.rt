@@ -1,13 +1,17 @@
 //! Laws of answers. No code that runs.
 
 ghost use Rattle.omega_answers_synth.specs.Laws.{ControllerAnswersAreExact, LettersAreTrueWhereGiven};
-ghost use Rattle.omega_answers_synth.specs.Laws.{ControllersForExcludeCounterStrategies};
+ghost use Rattle.omega_answers_synth.specs.Laws.{ControllersExcludeStrategies, ControllersForExcludeCounterStrategies};
+ghost use Rattle.omega_answers_synth.specs.Laws.{CounterAnswersAreExact, YesExcludesYes};
 ghost use Rattle.omega_answers_synth.specs.Laws.{RealizeAnswersAreExact, WinnerAnswersAreExact};
 ghost use Rattle.omega_answers_synth.specs.Laws.{WrittenControllersAreParts, YesExcludesUnrealizable};
 
 use omega_hoa::automata_are_one;
 use omega_hoa_automaton::meanings_are_automata;
-use omega_synth_check::{controllers_realize_specifications, judgements_are_exact};
+use omega_synth_check::{
+    controllers_realize_specifications, counter_judgements_are_exact, counter_strategies_for_beat,
+    judgements_are_exact,
+};
 use omega_synth_controllers::{
     beating_excludes_realizing, controllers_realize, counter_strategies_beat,
 };
@@ -64,6 +68,36 @@ pub fn yes_excludes_unrealizable()
     meanings_are_automata();
     judgements_are_exact();
     controllers_for_exclude_counter_strategies();
+}
+
+/// States that `verify_counter_strategy` returns `yes` exactly if the one text is that of a counter-strategy for the
+/// specification of the other.
+pub fn counter_answers_are_exact()
+    ensures { CounterAnswersAreExact }
+{
+    automata_are_one();
+    counter_judgements_are_exact();
+}
+
+/// States that no automaton is a controller for a deterministic specification for which another is a counter-strategy,
+/// if the specification says itself which propositions the system controls.
+pub fn controllers_exclude_strategies()
+    ensures { ControllersExcludeStrategies }
+{
+    controllers_realize_specifications();
+    counter_strategies_for_beat();
+}
+
+/// States that `verify_controller` and `verify_counter_strategy` do not both return `yes` for one specification, if it
+/// has the item `controllable-AP:`. It has the premise of `judgements_are_exact`.
+pub fn yes_excludes_yes()
+    ensures { YesExcludesYes }
+{
+    automata_are_one();
+    meanings_are_automata();
+    judgements_are_exact();
+    counter_judgements_are_exact();
+    controllers_exclude_strategies();
 }
 
 /// States that the letter in an answer is a formula over the names of the propositions, and that it is true exactly

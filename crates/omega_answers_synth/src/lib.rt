@@ -2,12 +2,14 @@
 //!
 //! docs/formats.md says when each refusal comes.
 //!
-//! What `verify --specification` answers to the text of a specification and to that of a controller.
+//! What `verify --specification` answers to the text of a specification and to that of a controller or of a
+//! counter-strategy.
 //!
 //! docs/formats.md says when each refusal comes.
 #![tactic(auto)]
 
 mod about;
+mod counter;
 mod decide;
 mod decided;
 mod game;
@@ -19,6 +21,7 @@ mod reason;
 mod verify;
 mod winner;
 
+pub use counter::verify_counter_strategy;
 pub use decide::{decide_realizability, decide_realizability_by_lifting};
 pub use game::write_realizability_game;
 pub use laws::{

@@ -1,10 +1,9 @@
 //! Which propositions the system controls.
 
-ghost use Rattle.std.specs.Prelude.{◌≡◌, ◌↔◌, IfErr, IfOk, IsTrue};
+ghost use Rattle.std.specs.Prelude.{◌≡◌, ◌↔◌, ◌++◌, [], IfErr, IfOk, IsOkUnless, IsTrue, OnOk, slice_index_or};
 ghost use Rattle.omega_graph.specs.Graph.{listed};
-ghost use Rattle.omega_answers_synth.specs.Parting.{AreAlike, AreControlledAlike};
-ghost use Rattle.omega_answers_synth.specs.private.Alike.{IsAlike, is_unlike};
-ghost use Rattle.omega_answers_synth.specs.Verify.{RefusesController};
+ghost use Rattle.omega_answers_synth.specs.Parting.{AreAlike, AreSystemNames, IsPartingRefused, names_at};
+ghost use Rattle.omega_answers_synth.specs.private.Alike.{ArePartedAlike, IsAlike, is_unlike};
 
 use omega_hoa_automaton::{Automaton, Refusal};
 use omega_io::{Refused, Which};
@@ -12,36 +11,91 @@ use omega_synth_controllers::{controlled_propositions, has_controllable_item};
 use omega_text::{ByteString, Numbers, TaskFault};
 use std::alloc::Global;
 
-/// Returns the propositions of `controller` that the system controls.
+/// The numbers of the propositions that the system controls, in a specification and in another automaton.
+#[derive(Drop)]
+pub(crate) struct PartedNumbers {
+    pub(crate) stated: Numbers,
+    pub(crate) controlled: Numbers,
+}
+
+/// Returns the propositions that the system controls, of `specification` and of `other`.
 ///
 /// Fails with [TaskFault::Controllable] about the specification if its item `controllable-AP:` is refused. Else fails
-/// so about the controller if its item is, or if the specification has the item and the two differ on a name that both
-/// have. At most the product of the counts of propositions.
-pub(crate) fn controlled_numbers(
+/// so about the other if its item is, or if the specification has the item and the two differ on a name that both have.
+/// At most the product of the counts of propositions.
+pub(crate) fn parted_numbers(
     alloc: Global,
     specification: &Automaton,
-    controller: &Automaton,
-) -> Result<Numbers, Refused>
-    ensures parted { IfOk result (AreControlledAlike specification.now controller.now) }
-    ensures refused { IfErr result (RefusesController specification.now controller.now) }
+    other: &Automaton,
+) -> Result<PartedNumbers, Refused>
+    ensures parted { IfOk result (ArePartedAlike specification.now other.now) }
+    ensures refused { IfErr result (IsPartingRefused specification.now other.now) }
 {
     let stated = match controlled_propositions(alloc, specification) {
         Ok(numbers) => numbers,
         Err(refusal) => return Err(Refused::of(Which::File, refusal)),
     };
-    let controlled = match controlled_propositions(alloc, controller) {
+    let controlled = match controlled_propositions(alloc, other) {
         Ok(numbers) => numbers,
         Err(refusal) => return Err(Refused::of(Which::Input, refusal)),
     };
     let names = specification.propositions();
-    let own_names = controller.propositions();
+    let own_names = other.propositions();
     if has_controllable_item(specification)
         && !are_alike(names, own_names, stated.as_slice(), controlled.as_slice())
     {
         let refusal = Refusal::Task(TaskFault::Controllable);
         return Err(Refused::of(Which::Input, refusal));
     }
-    Ok(controlled)
+    Ok(PartedNumbers { stated, controlled })
+}
+
+/// Returns the names of the propositions that the system controls: those of `specification` and those of `other`.
+pub(crate) fn system_names(
+    alloc: Global,
+    specification: &Automaton,
+    other: &Automaton,
+    parted: &PartedNumbers,
+) -> Result<Vec<ByteString>, Refusal>
+    requires { ArePartedAlike specification.now other.now parted.now }
+    ensures names { IfOk result (λ names. AreSystemNames specification.now other.now names.items) }
+    ensures memory { IsOkUnless result Refusal.Memory }
+{
+    let mut names = Vec::new(alloc);
+    append_names(specification.propositions(), parted.stated.as_slice(), &mut names)?;
+    append_names(other.propositions(), parted.controlled.as_slice(), &mut names)?;
+    Ok(names)
+}
+
+/// Appends those of `names` that stand at these `places`; an empty one past the last.
+fn append_names(
+    names: &[ByteString],
+    places: &[u32],
+    out: &mut Vec<ByteString>,
+) -> Result<(), Refusal>
+    ensures names { OnOk result (out.new.items ≡ out.old.items ++ names_at names.now places.now) }
+    ensures memory { IsOkUnless result Refusal.Memory }
+{
+    let alloc = *out.allocator();
+    for place in places {
+        let name = name_at(alloc, names, *place)?;
+        out.push(name)?;
+    }
+    Ok(())
+}
+
+/// Returns the name at `place`, an empty one past the last.
+fn name_at(alloc: Global, names: &[ByteString], place: u32) -> Result<ByteString, Refusal>
+    ensures name { IfOk result (λ name. name ≡ slice_index_or names.now place []) }
+    ensures memory { IsOkUnless result Refusal.Memory }
+{
+    match names.get(place as usize) {
+        None => Ok(ByteString::new()),
+        Some(name) => {
+            let copy = ByteString::from_slice(alloc, name.as_slice())?;
+            Ok(copy)
+        }
+    }
 }
 
 /// Whether the system controls propositions of one name both among `ones` and among `others`, or in neither. It

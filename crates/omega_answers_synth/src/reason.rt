@@ -43,8 +43,8 @@ pub(crate) fn judgement_answer(
     }
 }
 
-/// Returns the line that says that a controller has no start, if `explain` is set, and else nothing.
-fn start_lines(alloc: Global, explain: bool) -> Result<Vec<u8>, Refusal>
+/// Returns the line that says that an automaton has no start, if `explain` is set, and else nothing.
+pub(crate) fn start_lines(alloc: Global, explain: bool) -> Result<Vec<u8>, Refusal>
     ensures lines { IfOk result (λ lines. lines.items ≡ explained explain (codes "no start\n")) }
     ensures memory { IsOkUnless result Refusal.Memory }
 {

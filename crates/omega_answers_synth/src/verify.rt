@@ -5,7 +5,7 @@ ghost use Rattle.omega_answers_synth.specs.Verify.{IsControllerVerdict, RefusesC
 ghost use Rattle.omega_synth_check.specs.Refusing.{IsJudgeRefusal};
 
 use crate::about::judge_reported;
-use crate::parting::controlled_numbers;
+use crate::parting::parted_numbers;
 use crate::reason::judgement_answer;
 use omega_answers::read_two;
 use omega_hoa_automaton::{Automaton, Refusal};
@@ -58,12 +58,12 @@ fn controller_verdict(
         (λ made. IsControllerVerdict specification.now controller.now explain made.0 made.1.items) }
     ensures refused { IfErr result (RefusesController specification.now controller.now) }
 {
-    let controlled = controlled_numbers(alloc, specification, controller)?;
+    let parted = parted_numbers(alloc, specification, controller)?;
     match controller_reply(
         alloc,
         specification,
         controller,
-        controlled.as_slice(),
+        parted.controlled.as_slice(),
         explain,
     ) {
         Ok(made) => Ok(made),

@@ -46,8 +46,8 @@ that are enough to win, and the states that they reach, numbered anew in the ord
 A controller has for each state and each letter of the environment an edge whose label holds of that
 letter and some letter of the system, and each cycle of its edges is accepted. A counter-strategy has for
 each state one letter of the environment, with which the labels of the state's edges are joined by &. The
-edges are all that answer the letter, perhaps none, and no cycle of them is accepted. The exit status
-says which of the two is written.
+edges are all that answer the letter, and no cycle of them is accepted. If there are none, one edge leads
+back to the state, and its label is the letter. The exit status says which of the two is written.
 
 With --game nothing is decided, and the game in which it is decided is written in the format of PGSolver,
 as far as it is reached from the start. The system is player 0 and the environment player 1. A name says

@@ -1,4 +1,4 @@
--- Lemmas of the judge of controllers.
+-- Lemmas of the judges of controllers and of counter-strategies.
 pub mod EdgeLists
 pub mod Leavers
 pub mod MetStates
@@ -10,3 +10,14 @@ pub mod Judgements
 pub mod KeptParts
 pub mod Searches
 pub mod Strategies
+pub mod WaysOut
+pub mod Sides
+pub mod Joint
+pub mod Rests
+pub mod Coming
+pub mod SystemNames
+pub mod PairLetters
+pub mod Lacking
+pub mod Begins
+pub mod CounterJudgements
+pub mod Beating

@@ -8,6 +8,8 @@ use Rattle.omega_hoa_automaton.specs.Automaton.{Description}
 use Rattle.omega_lang_runs.specs.Judging.{GivesUpOn}
 use Rattle.omega_synth_game.specs.Making.{AllLeave, IsAskingFault, IsUnasked}
 use Rattle.omega_hoa_edges.proofs.Refusals.{task_weaker}
+use Rattle.omega_synth_check.specs.CounterRefusing as counter
+use Rattle.omega_synth_check.specs.CounterRefusing.{IsCounterRefusal}
 use Rattle.omega_synth_check.specs.Judging.{IsReached}
 use Rattle.omega_synth_check.specs.Refusing.{IsHardEdge, IsJudgeRefusal, IsLetterFault, IsLetterRefusal, IsLetterSearched, branches, hard_label, not_all, not_asked}
 use Rattle.omega_synth_check.specs.private.Searching.{HaveHardEdge, IsFormFault, IsFormRefusal, IsLackOf}
@@ -39,6 +41,11 @@ pub unasked_refused : (a : Description) (controlled : List ℕ) (state : ℕ) (n
 unasked_refused a controlled state numbers reached leave refusal refused =
     task_weaker (IsAskingFault a controlled numbers) (IsLetterFault a controlled) (λ fault asking. not_asked fault state numbers reached leave asking) refusal refused
 
+-- for the same propositions
+pub letters_refused : (a : Description) (controlled also : List ℕ) → controlled ≡ also → (refusal : Refusal) → IsLetterRefusal a controlled refusal
+    → IsLetterRefusal a also refusal
+letters_refused a controlled also same refusal refused = subst (λ (numbers : List ℕ). IsLetterRefusal a numbers refusal) same refused
+
 -- want of memory
 pub memory_letter : (a : Description) (controlled : List ℕ) (refusal : Refusal) → refusal ≡ Memory → IsLetterRefusal a controlled refusal
 memory_letter a controlled refusal is = subst (IsLetterRefusal a controlled) (sym is) tt
@@ -56,3 +63,17 @@ form_refused specification a controlled (Text fault) refused = absurd refused
 form_refused specification a controlled (Game fault) refused = absurd refused
 form_refused specification a controlled (Automaton fault) refused = absurd refused
 form_refused specification a controlled Io refused = absurd refused
+
+-- the form of a counter-strategy
+pub counter_form_refused : (specification a : Description) (controlled : List (List ℕ)) (refusal : Refusal) → IsFormRefusal a refusal
+    → IsCounterRefusal specification a controlled refusal
+counter_form_refused specification a controlled (Task fault) refused = go fault refused
+  where
+    go : (f : TaskFault) → IsFormFault a f → IsCounterRefusal specification a controlled (Task f)
+    go f (inl found) = subst (λ (g : TaskFault). IsCounterRefusal specification a controlled (Task g)) (sym found.0) (counter.branches found.1)
+    go f (inr other) = subst (λ (g : TaskFault). IsCounterRefusal specification a controlled (Task g)) (sym other.0) (counter.not_all other.1 other.2)
+counter_form_refused specification a controlled Memory refused = absurd refused
+counter_form_refused specification a controlled (Text fault) refused = absurd refused
+counter_form_refused specification a controlled (Game fault) refused = absurd refused
+counter_form_refused specification a controlled (Automaton fault) refused = absurd refused
+counter_form_refused specification a controlled Io refused = absurd refused

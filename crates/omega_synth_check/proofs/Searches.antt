@@ -48,7 +48,7 @@ settled_more P states more at extends below before here place low =
     ]
 
 -- once all states that are met were visited, it holds of each state that is reached
-reached_settled : (a : Description) (P : ℕ → Type 0) (states : List ℕ) (at : ℕ) → length states < at + 1 → HasStarts a states
+pub reached_settled : (a : Description) (P : ℕ → Type 0) (states : List ℕ) (at : ℕ) → length states < at + 1 → HasStarts a states
     → ((place : ℕ) → place < at → HasNext a (state_at states place) states)
     → ((place : ℕ) → place < at → P (state_at states place)) → (state : ℕ) → IsReached a state → P state
 reached_settled a P states at past starts next settled state reached =

@@ -2,3 +2,5 @@
 pub mod Leaving
 pub mod Meeting
 pub mod Searching
+pub mod WaysOut
+pub mod Letterless

@@ -4,6 +4,7 @@ mod Starts
 mod FlagLemmas
 mod Literals
 mod Written
+mod LetterEdges
 mod Graphs
 mod Plain
 mod Whole

@@ -1,6 +1,6 @@
 -- The automaton of a controller or of a counter-strategy: the states that are reached, numbered in their order, the
 -- kept edges with their labels, and every word of it accepted. The edges of a counter-strategy also demand the letter
--- of their state.
+-- of their state, and a state whose letter no edge answers has an edge back to it for that letter.
 use Rattle.std.specs.Prelude.{◌≡◌, ℕ, suc, ◌+◌, ◌&&◌, Bool, true, not, List, [], ◌∷◌, Option, None, Some}
 use Rattle.std.specs.Prelude.{codes, count_by, filter, if◌then◌else◌, length, map, nat_lt, slice_index_or}
 use Rattle.std.specs.List.{range_with_len}
@@ -67,7 +67,17 @@ kept_edges kept edge_of index number (edge ∷ edges) =
     if kept number then edge_of index edge ∷ kept_edges kept edge_of (suc index) (suc number) edges
     else kept_edges kept edge_of (suc index) (suc number) edges
 
--- a state that is reached, with its kept edges, of which the first has this number
+-- an edge from the state with a number back to it, for a letter
+abbrev pub letter_edge : LabelTree → ℕ → Edge
+letter_edge letter number = record { label = Some letter; targets = number ∷ []; marks = [] }
+
+-- the edges of the state with a number; if there are none and the state has a letter, the edge for this letter
+abbrev pub with_letter : Option LabelTree → (number : ℕ) → List Edge → List Edge
+with_letter None number edges = edges
+with_letter (Some letter) number [] = letter_edge letter number ∷ []
+with_letter (Some letter) number (edge ∷ edges) = edge ∷ edges
+
+-- a state that is reached, with its kept edges, of which the first has this number, or with its letter
 abbrev pub kept_state : (count : ℕ) → (kept reached : ℕ → Bool) → (letters : ℕ → Option LabelTree)
     → (number : ℕ) → State → State
 kept_state count kept reached letters number state = record {
@@ -75,8 +85,8 @@ kept_state count kept reached letters number state = record {
   number = number_of reached state.number;
   name = state.name;
   marks = [];
-  edges =
-      kept_edges kept (kept_edge count reached (letters state.number) state) 0 number state.edges;
+  edges = with_letter (letters state.number) (number_of reached state.number)
+      (kept_edges kept (kept_edge count reached (letters state.number) state) 0 number state.edges);
 }
 
 -- the reached ones among states; the first edge of all of them has this number

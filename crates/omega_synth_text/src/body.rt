@@ -7,7 +7,7 @@ ghost use Rattle.omega_hoa_automaton.specs.Automaton.{edge_count};
 ghost use Rattle.omega_hoa_automaton.specs.declared.edge.Edge.{Edge as edge_item};
 ghost use Rattle.omega_canon.specs.BodyText.{body_text, edge_line, state_text};
 ghost use Rattle.omega_canon.specs.Parts.{string_part};
-ghost use Rattle.omega_synth_text.specs.Winner.{state_letter};
+ghost use Rattle.omega_synth_text.specs.Winner.{letter_edge, number_of, state_letter};
 ghost use Rattle.omega_synth_text.specs.private.Parts as parts;
 ghost use Rattle.omega_synth_text.specs.private.Texts.{bytes_of};
 
@@ -83,7 +83,8 @@ fn write_name(name: Option<&[u8]>, out: &mut Vec<u8>) -> Result<(), Refusal>
     Ok(())
 }
 
-/// Appends the kept edges of `state`, whose first edge has this `number`.
+/// Appends the kept edges of `state`, whose first edge has this `number`. If there are letters and no edge is kept,
+/// appends an edge from the state back to it for its letter.
 fn write_edges(
     winner: &Winner<'_>,
     state: &State,
@@ -94,15 +95,65 @@ fn write_edges(
     requires state { parts.IsPlainState winner.now.automaton.now.states state.now }
     requires number { number + length state.now.edges ≤ edge_count winner.now.automaton.now }
     ensures text { OnOk result (out.new.items ≡ out.old.items
-        ++ flat_map edge_line (parts.edges_by winner.now state.now 0 number state.now.edges)) }
+        ++ flat_map edge_line (parts.written_by winner.now number state.now)) }
     ensures memory { IsOkUnless result Refusal.Memory }
 {
     let letter = state_letter(*out.allocator(), winner, state.number)?;
+    let before = out.len();
+    write_kept_edges(winner, state, number, letter.as_slice(), out)?;
+    if winner.lettered && out.len() == before {
+        write_letter_edge(winner, state, letter.as_slice(), out)?;
+    }
+    Ok(())
+}
+
+/// Appends the kept edges of `state`, whose first edge has this `number`; `letter` is the text of the letter of the
+/// state, if there are letters.
+fn write_kept_edges(
+    winner: &Winner<'_>,
+    state: &State,
+    number: usize,
+    letter: &[u8],
+    out: &mut Vec<u8>,
+) -> Result<(), Refusal>
+    requires ready { parts.IsReady winner.now }
+    requires state { parts.IsPlainState winner.now.automaton.now.states state.now }
+    requires number { number + length state.now.edges ≤ edge_count winner.now.automaton.now }
+    requires letter { winner.now.lettered ≡ true → letter.now
+        ≡ bytes_of (state_letter winner.now.inputs.now winner.now.letters.now state.now.number) }
+    ensures text { OnOk result (out.new.items ≡ out.old.items
+        ++ flat_map edge_line (parts.edges_by winner.now state.now 0 number state.now.edges)) }
+    ensures memory { IsOkUnless result Refusal.Memory }
+{
     for at in 0..state.edges.len() {
         if is_set(winner.kept, number + at) {
-            write_edge(winner, state, at, letter.as_slice(), out)?;
+            write_edge(winner, state, at, letter, out)?;
         }
     }
+    Ok(())
+}
+
+/// Appends the line of an edge from `state` back to it, for the letter of the state, whose text is `letter`.
+fn write_letter_edge(
+    winner: &Winner<'_>,
+    state: &State,
+    letter: &[u8],
+    out: &mut Vec<u8>,
+) -> Result<(), Refusal>
+    requires ready { parts.IsReady winner.now }
+    requires state { parts.IsPlainState winner.now.automaton.now.states state.now }
+    requires letter { letter.now
+        ≡ bytes_of (state_letter winner.now.inputs.now winner.now.letters.now state.now.number) }
+    ensures text { OnOk result (out.new.items ≡ out.old.items ++ edge_line (letter_edge
+        (state_letter winner.now.inputs.now winner.now.letters.now state.now.number)
+        (number_of (parts.reached_by winner.now) state.now.number))) }
+    ensures memory { IsOkUnless result Refusal.Memory }
+{
+    out.push(b'[')?;
+    out.extend_from_slice(letter)?;
+    out.extend_from_slice(b"] ")?;
+    write_number(u128::from(new_number(winner.numbers, state.number)), out)?;
+    out.push(b'\n')?;
     Ok(())
 }
 

@@ -39,8 +39,8 @@ pub fn controller_text(
 }
 
 /// Returns the canonical text of the automaton of the `kept` edges of `automaton` as [controller_text] does, of a
-/// counter-strategy: the label of each edge also demands the letter of its state. The `letters` list the propositions
-/// that hold, by state.
+/// counter-strategy: the label of each edge also demands the letter of its state. A state of which no edge is kept gets
+/// one back to it, for its letter. The `letters` list the propositions that hold, by state.
 pub fn counter_strategy_text(
     alloc: Global,
     automaton: &Automaton,

@@ -1,8 +1,12 @@
 -- What two items say of one name.
-use Rattle.std.specs.Prelude.{◌≡◌, ◌↔◌, ℕ, ◌<◌, ◌&&◌, Bool, not, if◌then◌else◌}
+use Rattle.std.specs.Prelude.{◌≡◌, ◌↔◌, ℕ, ◌<◌, ◌&&◌, Bool, true, not, if◌then◌else◌}
 use Rattle.std.specs.Prelude.{List, Contains, IsTrue, Some, slice_get}
 use Rattle.std.specs.Str.{bytes_eq}
 use Rattle.omega_graph.specs.Graph.{listed}
+use Rattle.omega_hoa_automaton.specs.Automaton.{Description}
+use Rattle.omega_synth_controllers.specs.Controllable.{IsControlled, has_item}
+use Rattle.omega_answers_synth.specs.Parting.{AreAlike}
+use Rattle.omega_answers_synth.specs.declared.parting.PartedNumbers.{PartedNumbers}
 
 -- the system controls the propositions of a name below the end exactly if it is `controlled`
 abbrev pub IsAlikeBelow : (end : ℕ) → (name : List ℕ) → (others : List (List ℕ))
@@ -28,3 +32,11 @@ abbrev pub is_unlike : (other name : List ℕ) → (other_controlled controlled 
 is_unlike other name other_controlled controlled =
     if controlled then bytes_eq other name && not other_controlled
     else bytes_eq other name && other_controlled
+
+-- the system controls the propositions with these numbers in a specification and in another automaton, and both say the
+-- same of the names that both have, if the specification has the item
+pub record ArePartedAlike (specification other : Description) (parted : PartedNumbers) : Type 0 where
+  pub own : IsControlled other parted.controlled
+  pub specified : IsControlled specification parted.stated
+  pub alike : has_item specification ≡ true
+      → AreAlike specification.propositions other.propositions parted.stated parted.controlled

@@ -7,7 +7,7 @@ use Rattle.omega_hoa_automaton.specs.declared.edge.Edge.{Edge}
 use Rattle.omega_hoa_automaton.specs.declared.state.State.{State}
 use Rattle.omega_hoa_edges.specs.Labels.{label_at}
 use Rattle.omega_synth_text.specs.Winner.{demanding, kept_edge, kept_edges, kept_state}
-use Rattle.omega_synth_text.specs.Winner.{kept_states, state_letter, number_of, winner}
+use Rattle.omega_synth_text.specs.Winner.{kept_states, state_letter, number_of, winner, with_letter}
 use Rattle.omega_synth_text.specs.declared.parts.Winner.{Winner}
 
 -- whether the flag of a number is set
@@ -43,6 +43,11 @@ edge_by w state =
 -- the kept ones among edges of a state, of which the first has this index and this number
 abbrev pub edges_by : Winner → State → ℕ → ℕ → List Edge → List Edge
 edges_by w state = kept_edges (kept_by w) (edge_by w state)
+
+-- the edges that are written of a state, of which the first has this number: the kept ones, or one for its letter
+abbrev pub written_by : Winner → ℕ → State → List Edge
+written_by w number state = with_letter (letters_by w state.number)
+    (number_of (reached_by w) state.number) (edges_by w state 0 number state.edges)
 
 -- a state with its kept edges, of which the first has this number
 abbrev pub state_by : Winner → ℕ → State → State

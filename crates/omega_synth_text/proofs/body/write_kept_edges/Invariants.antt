@@ -3,7 +3,7 @@ use Rattle.std.proofs.Common.{◌≡◌, ◌+◌, ◌++◌, drop}
 use Rattle.std.specs.List.{flat_map}
 use Rattle.omega_canon.specs.BodyText.{edge_line}
 use Rattle.omega_synth_text.specs.private.Parts.{edges_by}
-use Rattle.omega_synth_text.proofs.body.write_edges.Given as goal
+use Rattle.omega_synth_text.proofs.body.write_kept_edges.Given as goal
 
 abbrev pub invariant-loop-at : goal.invariant-loop-at
 invariant-loop-at l =
