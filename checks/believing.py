@@ -48,6 +48,8 @@ EXACT = {
         ("omega_answers_synth.specs.Laws", "RealizeAnswersAreExact", frozenset({"IsDecisionAnswer"})),
     "`omega verify --specification`, the law `controller_answers_are_exact`":
         ("omega_answers_synth.specs.Laws", "ControllerAnswersAreExact", frozenset({"IsControllerAnswer"})),
+    "`omega verify --specification --counter-strategy`, the law `counter_answers_are_exact`":
+        ("omega_answers_synth.specs.Laws", "CounterAnswersAreExact", frozenset({"IsCounterAnswer"})),
     "`omega accepts`, the law `accepted_texts_are_accepted`":
         ("omega_laws.specs.InclusionTexts", "AcceptedTextsAreAccepted", frozenset({"IsAcceptsAnswer"})),
     "`omega accepts --some`, the law `some_texts_are_accepted`":
@@ -63,6 +65,7 @@ CALLS = {
     "`decide_equality` of `omega_lang_inclusion`": ("omega_lang_inclusion.specs.Equality", "IsEquality"),
     "`realize` of `omega_synth_realize`": ("omega_synth_realize.specs.Realizing", "IsRealizability"),
     "`judge` of `omega_synth_check`": ("omega_synth_check.specs.Judging", "IsJudgement"),
+    "`judge_counter_strategy` of `omega_synth_check`": ("omega_synth_check.specs.CounterJudging", "IsCounterJudgement"),
 }
 
 # Each promise, with the beginnings of the rows that are its own.
@@ -88,6 +91,7 @@ COMMANDS = {
     "empty --search --stream": ("AnswersStream: EmptySearch",),
     "verify --automaton": ("VerifyLasso",),
     "verify --specification": ("VerifyController",),
+    "verify --specification --counter-strategy": ("VerifyCounterStrategy",),
     "accepts": ("Accepts",),
     "accepts --some": ("AcceptsSome",),
     "contained": ("Contained",),

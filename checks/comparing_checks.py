@@ -64,14 +64,15 @@ def letters_of(one: Automaton, other: Automaton) -> list[Letter]:
     return valuations([*dict.fromkeys(names_of(one) + names_of(other))])
 
 
-def apart_fault(one: Automaton, other: Automaton, line: bytes) -> Fault:
-    """A word that a line admits and that does not tell the automata apart, or nothing."""
+def apart_fault(one: Automaton, other: Automaton, line: bytes, is_common: bool) -> Fault:
+    """A word that a line admits and that does not tell the automata apart, or is not accepted by both if it is to be
+    common; or nothing."""
     stem, cycle = read_word(line)
     letters, drawn = letters_of(one, other), random.Random(line)
     for _ in range(4):
         word = admitted(stem, letters, drawn.choice), admitted(cycle, letters, drawn.choice)
-        if not accepts(one, *word) or accepts(other, *word):
-            return f"{shown(line)} admits {word}, which does not tell the automata apart"
+        if not accepts(one, *word) or accepts(other, *word) != is_common:
+            return f"{shown(line)} admits {word}, which does not show it"
     return None
 
 
@@ -89,9 +90,9 @@ def along_fault(one: Automaton, other: Automaton, edges: list[int], line: bytes)
     return None
 
 
-def explained_fault(text: bytes, other: bytes, explained: bytes) -> Fault:
+def explained_fault(text: bytes, other: bytes, explained: bytes, is_common: bool = False) -> Fault:
     """What is wrong with the lasso and the word that say that a text's automaton accepts what the other does not, or
-    nothing."""
+    what both accept if that is to be common; or nothing."""
     automaton, against = read_one(text), read_one(other)
     stem_line, cycle_line, word = (explained.split(b"\n", 2) + [b"", b""])[:3]
     written = stem_line + b"\n" + cycle_line + b"\n"
@@ -105,7 +106,8 @@ def explained_fault(text: bytes, other: bytes, explained: bytes) -> Fault:
     if ran.stderr or (ran.returncode, ran.stdout) != YES:
         return f"the lasso: {told(ran)}"
     try:
-        return apart_fault(automaton, against, word) or along_fault(automaton, against, lasso[0] + lasso[1], word)
+        fault = apart_fault(automaton, against, word, is_common)
+        return fault or along_fault(automaton, against, lasso[0] + lasso[1], word)
     except NoWord as why:
         return f"{shown(word)}: {why}"
 

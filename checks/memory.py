@@ -10,7 +10,7 @@ from functools import partial
 
 from program import OMEGA, SECONDS, Cases, Fault, Left, shown
 from shims import shim
-from specifications import ARBITER, ARBITRATES, ASKS, GOALS, SERVANT, SERVES
+from specifications import ARBITER, ARBITRATES, ASKS, GOALS, GUESS, SERVANT, SERVES, SURPRISES
 
 REFUSED = (4, b"", b"omega: 60 Memory\n")
 
@@ -114,6 +114,9 @@ RUNS: list[Run] = [
     *((["verify", *more, "--specification"], one, other) for more in (NONE, ["--explain"])
       for one, other in ((ARBITRATES, ARBITER), (ASKS, SERVANT), (SERVES, GOALS), (SERVES, ARBITER),
                          (ARBITRATES, b"HOA: v1"))),
+    *((["verify", *more, "--counter-strategy", "--specification"], one, other) for more in (NONE, ["--explain"])
+      for one, other in ((SURPRISES, GUESS), (ASKS, SERVANT), (SURPRISES, ARBITER), (ARBITRATES, ARBITER),
+                         (ASKS, GOALS), (ASKS, b"HOA: v1"))),
     *((["draw", "--format", "pg", *more], text, None)
       for text in (GAPS, CHOICE, CARRY, DENSE, b'4 0 0 4 "' + b"\\&" * 20 + b'";')
       for more in (NONE, ["--from", "4" if b"4 " in text else "0", "--depth", "2"])),

@@ -1,12 +1,13 @@
 """What `realize` answers, and how `verify --specification` judges, against a plain solver with a node for each letter
 of the environment. 1,000 random parity automata are asked for the answer, by the search and by lifting, for the game,
-and for the winner's automaton, which is judged letter by letter. Each controller is judged `yes` by the program, and
-altered ones as a slow judge says, with the reason.
+and for the winner's automaton, which is judged letter by letter. Each controller and each counter-strategy is judged
+`yes` by the program, and altered ones as a slow judge says, with the reason.
 
 The automata are deterministic, of the four kinds, and have up to 6 states and up to 4 propositions; edges are missing,
 marks stand on states and on edges, labels on states, on edges and nowhere. Some have a fault, for which they are
-refused. A controller is altered by an edge that is dropped, redirected or added, among others, and is judged for
-another automaton too. The judge of winners is tried with winners that were found by hand, and with wrong ones.
+refused. Each of the two is altered by an edge that is dropped, redirected or added, among others, and a controller is
+judged for another automaton too. The judge of winners is tried with winners that were found by hand, and with wrong
+ones.
 """
 import itertools
 import random
@@ -15,12 +16,13 @@ from functools import partial
 
 from automata import Refused, read_one
 from comparing_checks import explained_fault, told
+from counters import Contest, counter_judgeable, letterless_fault
 from games import read_game, winners
 from product_checks import beside
 from program import Cases, Fault, Ran, run_of, shown
 from realizability import Parted, asked, game_fault, is_controller, is_realizable, judgeable, lack_fault, lacks, parted
 from realizability import winner_fault, winner_text
-from specifications import ARBITRATES, WINNERS, Altered, Specifications, first_that_holds
+from specifications import ARBITRATES, ASKS, WINNERS, Altered, Specifications, first_that_holds
 
 REALIZABLE, UNREALIZABLE = (0, b"realizable\n"), (6, b"unrealizable\n")
 YES, NO = (0, b"yes\n"), (6, b"no\n")
@@ -125,6 +127,36 @@ def reason_fault(specification: bytes, controller: Parted, text: bytes, reason: 
     return lack_fault(controller, reason) if lacks(controller) else explained_fault(text, specification, reason)
 
 
+def countered_fault(specification: bytes, text: bytes) -> Fault:
+    """What is wrong with how the program judges a counter-strategy of any making, or nothing."""
+    words = ["--counter-strategy", "--specification"]
+    ran = beside(["verify", *words], specification, text)
+    told_why = beside(["verify", "--explain", *words], specification, text)
+    try:
+        contest = counter_judgeable(read_one(specification), read_one(text))
+    except Refused as refused:
+        is_right = is_refused(ran, refused) and is_refused(told_why, refused)
+        return None if is_right else f"{told(ran)}, {told(told_why)} for {refused}, of {text!r}"
+    answer = YES if contest.is_won() else NO
+    if answer_of(ran) != answer:
+        return f"{told(ran)} for {answer}, of {text!r}"
+    if told_why.stderr or told_why.returncode != answer[0] or not told_why.stdout.startswith(answer[1]):
+        return f"--explain: {told(told_why)} for {answer}, of {text!r}"
+    fault = contest_fault(contest, specification, text, told_why.stdout.removeprefix(answer[1]), answer == YES)
+    return fault and f"--explain: {fault}: {told(told_why)}, of {text!r}"
+
+
+def contest_fault(contest: Contest, specification: bytes, text: bytes, reason: bytes, is_right: bool) -> Fault:
+    """What is wrong with the reason why a text is that of no counter-strategy, or nothing."""
+    if is_right:
+        return "a reason is given" if reason else None
+    if contest.lacks_start():
+        return None if reason == b"no start\n" else "there is no start"
+    if contest.lacks_letter():
+        return letterless_fault(contest, reason)
+    return explained_fault(text, specification, reason, is_common=True)
+
+
 def judge_checks() -> Cases:
     """The plain solver, and the judge of winners, on what was found by hand."""
     for text, wins, right, wrong in WINNERS:
@@ -149,6 +181,24 @@ def altered_checks(label: str, text: bytes, controller: bytes, drawn: random.Ran
         yield f"{label}: its controller with {what}", partial(judged_fault, text, altered)
     whole = winner_of_all(asked(read_one(text))[0])
     yield f"{label}: all of its edges", partial(judged_fault, text, whole)
+
+
+def countered_checks(label: str, text: bytes, strategy: bytes, drawn: random.Random) -> Cases:
+    """How the program judges the counter-strategy that it writes of a text, and altered ones."""
+    yield f"{label}: its own counter-strategy", partial(own_counter_fault, text, strategy)
+    for what, altered in Altered(strategy, drawn).each():
+        yield f"{label}: its counter-strategy with {what}", partial(countered_fault, text, altered)
+    whole = winner_of_all(asked(read_one(text))[0])
+    yield f"{label}: all of its edges as a counter-strategy", partial(countered_fault, text, whole)
+
+
+def own_counter_fault(text: bytes, strategy: bytes) -> Fault:
+    ways: list[list[str]] = [[], ["--explain"]]
+    for words in ways:
+        ran = beside(["verify", *words, "--counter-strategy", "--specification"], text, strategy)
+        if answer_of(ran) != YES:
+            return f"{told(ran)}, of {strategy!r}"
+    return countered_fault(text, strategy)
 
 
 def winner_of_all(asked_of: Parted) -> bytes:
@@ -180,8 +230,9 @@ REALIZE_FAULTS: Faults = {
     "42 TooManyPropositions": (b"[0] 3 [!0] 0", b"[!0] 0 [0&" + b"&".join(b"%d" % at for at in range(1, 13)) + b"] 3"),
 }
 # Of a controller and the specification, in the order in which they are refused: whose fault it is, and what it is.
+Whose = tuple[bytes, str, tuple[bytes, bytes]]
 ITSELF, OTHER = b"the controller", b"the specification"
-VERIFY_FAULTS: list[tuple[bytes, str, tuple[bytes, bytes]]] = [
+VERIFY_FAULTS: list[Whose] = [
     (OTHER, "20 Version", REALIZE_FAULTS["20 Version"]),
     (ITSELF, "20 Version", REALIZE_FAULTS["20 Version"]),
     (OTHER, "58 Controllable", REALIZE_FAULTS["58 Controllable"]),
@@ -192,6 +243,22 @@ VERIFY_FAULTS: list[tuple[bytes, str, tuple[bytes, bytes]]] = [
     (OTHER, "41 UniversalBranch", (b"Start: 0", b"Start: 0&0")),
     (OTHER, "56 NotDeterministic at 3", REALIZE_FAULTS["56 NotDeterministic at 3"]),
     (OTHER, "56 NotDeterministic at 2", TWO_EDGES),
+]
+# The same of a counter-strategy.
+COUNTER = b"the counter-strategy"
+COUNTER_FAULTS: list[Whose] = [
+    (OTHER, "20 Version", REALIZE_FAULTS["20 Version"]),
+    (COUNTER, "20 Version", REALIZE_FAULTS["20 Version"]),
+    (OTHER, "58 Controllable", REALIZE_FAULTS["58 Controllable"]),
+    (COUNTER, "58 Controllable", (b"controllable-AP: 13", b"controllable-AP: 13 14")),
+    (COUNTER, "58 Controllable", (b"controllable-AP: 13", b"controllable-AP:")),
+    (OTHER, "41 UniversalBranch", (b"Start: 0", b"Start: 0&0")),
+    (OTHER, "56 NotDeterministic at 3", REALIZE_FAULTS["56 NotDeterministic at 3"]),
+    (OTHER, "56 NotDeterministic at 2", TWO_EDGES),
+    (COUNTER, "41 UniversalBranch", REALIZE_FAULTS["41 UniversalBranch"]),
+    (COUNTER, "40 NotParity", (b"Acceptance: 0 t", b"Acceptance: 0 f")),
+    (COUNTER, "56 NotDeterministic at 3", REALIZE_FAULTS["56 NotDeterministic at 3"]),
+    (COUNTER, "56 NotDeterministic at 2", TWO_EDGES),
 ]
 # What `--verbose` says is to be mended, of those whose line it is. The edges are numbered through the body.
 CAUSES = {"56 NotDeterministic at 3": b"there are 2 starts",
@@ -228,14 +295,22 @@ def refusal_checks() -> Cases:
                 refusal_fault, ["realize", *words], None, text, [first.encode()])
     yield "verify --specification without a fault", partial(
         unlike_fault, ["verify", "--specification"], SOUND, ITS_CONTROLLER, YES)
-    for first_of, other_of in itertools.combinations_with_replacement(VERIFY_FAULTS, 2):
-        held, text = SOUND, ITS_CONTROLLER
-        for whose, _, fault in (first_of, other_of) if first_of != other_of else (first_of,):
-            held, text = (held.replace(*fault), text) if whose == OTHER else (held, text.replace(*fault))
-        lines = [first_of[1].encode(), b"in " + first_of[0], *([CAUSES[first_of[1]]] if first_of[1] in CAUSES else [])]
-        label = f"verify --specification with {first_of[:2]} and {other_of[:2]}"
-        yield label, partial(refusal_fault, ["verify", "--specification"], held, text, lines[:1])
-        yield f"{label}, -v", partial(refusal_fault, ["verify", "-v", "--specification"], held, text, lines)
+    yield "verify --counter-strategy without a fault", partial(
+        unlike_fault, ["verify", "--counter-strategy", "--specification"], SOUND, ITS_CONTROLLER, NO)
+    for faults, words in ((VERIFY_FAULTS, []), (COUNTER_FAULTS, ["--counter-strategy"])):
+        for first_of, other_of in itertools.combinations_with_replacement(faults, 2):
+            yield from both_refused(words, first_of, other_of)
+
+
+def both_refused(words: list[str], first_of: Whose, other_of: Whose) -> Cases:
+    """Two faults of the texts that `verify --specification` reads with these words: the first is refused."""
+    held, text = SOUND, ITS_CONTROLLER
+    for whose, _, fault in (first_of, other_of) if first_of != other_of else (first_of,):
+        held, text = (held.replace(*fault), text) if whose == OTHER else (held, text.replace(*fault))
+    lines = [first_of[1].encode(), b"in " + first_of[0], *([CAUSES[first_of[1]]] if first_of[1] in CAUSES else [])]
+    label = f"verify {' '.join([*words, '--specification'])} with {first_of[:2]} and {other_of[:2]}"
+    yield label, partial(refusal_fault, ["verify", *words, "--specification"], held, text, lines[:1])
+    yield f"{label}, -v", partial(refusal_fault, ["verify", "-v", *words, "--specification"], held, text, lines)
 
 
 def wide_checks() -> Cases:
@@ -259,7 +334,7 @@ def wide_checks() -> Cases:
 
 
 def random_checks() -> Cases:
-    maker, last = Specifications(2031), ARBITRATES
+    maker, last, last_counter = Specifications(2031), ARBITRATES, ASKS
     for number in range(1000):
         text = maker.specification()
         label = f"the automaton {number}, {text!r}"
@@ -271,10 +346,14 @@ def random_checks() -> Cases:
             yield f"realize --controller --lift, {label}", partial(written_fault, text, LIFT)
             yield f"realize --lift --budget, {label}", partial(budget_fault, text, maker.some(0, 40))
         yield f"verify --specification, {label}: another's controller", partial(judged_fault, text, last)
+        yield f"verify --counter-strategy, {label}: another's", partial(countered_fault, text, last_counter)
         ran = run_of(["realize", "--controller"], text)
         if (ran.returncode, ran.stderr) == (0, b""):
             last = ran.stdout
             yield from altered_checks(f"verify --specification, {label}", text, last, maker.random)
+        elif (ran.returncode, ran.stderr) == (6, b""):
+            last_counter = ran.stdout
+            yield from countered_checks(f"verify --counter-strategy, {label}", text, last_counter, maker.random)
 
 
 def synthesis_checks() -> Cases:

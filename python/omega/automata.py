@@ -181,6 +181,13 @@ class Automaton:
         propositions that the item `controllable-AP:` of the controller lists."""
         return ran(["verify", "--specification", "specification"], controller._text, self._text).status == 0
 
+    def refuted_by(self, strategy: Automaton) -> bool:
+        """Whether an automaton of anyone's making is a counter-strategy for this specification: a strategy of the
+        environment against which no system keeps it. The system controls the propositions that the items
+        `controllable-AP:` of both list."""
+        words = ["verify", "--counter-strategy", "--specification", "specification"]
+        return ran(words, strategy._text, self._text).status == 0
+
     def game(self) -> Game:
         """The emptiness game, which player 0 wins from the node of some start exactly if a word is accepted."""
         return Game.parse(written(["game"], self._text))

@@ -63,8 +63,9 @@ solve = with_options (codes "solve") (optional (codes "player") ∷ optional (co
 abbrev pub verify : Shape
 verify = with_options (codes "verify")
     (optional (codes "game") ∷ optional (codes "automaton") ∷ optional (codes "specification")
-    ∷ flag (codes "winners") ∷ optional (codes "from") ∷ flag (codes "explain")
-    ∷ flag (codes "names") ∷ flag (codes "lenient") ∷ verbose ∷ operand (codes "file") ∷ [])
+    ∷ flag (codes "counter-strategy") ∷ flag (codes "winners") ∷ optional (codes "from")
+    ∷ flag (codes "explain") ∷ flag (codes "names") ∷ flag (codes "lenient") ∷ verbose
+    ∷ operand (codes "file") ∷ [])
 
 abbrev pub empty : Shape
 empty =

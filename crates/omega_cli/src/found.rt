@@ -23,6 +23,7 @@ pub fn options_in<'a>(found: &ArgMatches<'a>) -> Options<'a>
         game: found.get_str("game"),
         automaton: found.get_str("automaton"),
         specification: found.get_str("specification"),
+        counter_strategy: found.get_str("counter-strategy"),
         explain: found.get_str("explain"),
         names: found.get_str("names"),
         word: found.get_str("word"),

@@ -9,10 +9,10 @@ use std::alloc::{AllocError, Global};
 
 const DETAILS: &str = "\
 Use it to check an answer, whoever made it: a solution of a game, a lasso of an automaton, or a
-controller for a specification. It reads the answer from FILE, or from standard input if there is no FILE
-or it is -, and the game, the automaton or the specification from the file that --game, --automaton or
---specification names. It writes `yes` if the answer is right, and `no` if not. One of the three has to be
-given, and no two of them.
+controller or a counter-strategy for a specification. It reads the answer from FILE, or from standard
+input if there is no FILE or it is -, and the game, the automaton or the specification from the file that
+--game, --automaton or --specification names. It writes `yes` if the answer is right, and `no` if not.
+One of the three has to be given, and no two of them.
 
 --game FILE checks a solution of the game in FILE. The solution is right if for each player the choices
 win from all the nodes that it gives to that player. The game is not solved: only the choices are
@@ -117,10 +117,22 @@ every letter of the environment, and the specification accepts each of its words
   $ omega realize --controller arbiter.hoa | omega verify --specification arbiter.hoa
   yes
 
+With --counter-strategy too, it checks a counter-strategy for the specification: a strategy of the
+environment against which no system satisfies it. The automaton has the same form, and has to be
+deterministic, as the specification has to be. It is right if it has a start where the specification has
+one, if in each two states that both reach by the same letters the environment has a letter so that the
+counter-strategy has an edge for every answer of the system for which the specification has one, and if
+the specification accepts none of its words. --counter-strategy goes with --specification only.
+
+  $ sed 's/controllable-AP: 1/controllable-AP:/' arbiter.hoa > impossible.hoa
+  $ omega realize --controller impossible.hoa > counter.hoa
+  $ omega verify --specification impossible.hoa --counter-strategy counter.hoa
+  yes
+
 If both texts are at fault, the fault of the game, the automaton or the specification is reported. With
 --verbose another line says which text has the fault: `omega: in the game` or `omega: in the solution`,
-`omega: in the automaton` or `omega: in the lasso`, and `omega: in the specification` or
-`omega: in the controller`.
+`omega: in the automaton` or `omega: in the lasso`, and `omega: in the specification`,
+`omega: in the controller` or `omega: in the counter-strategy`.
 
   $ echo 'paritysol 2; 0 0 2; 1 0; 2 0' | omega verify --game game.pg
   omega: 3 Syntax at 29
@@ -144,6 +156,11 @@ const OPTIONS: &[OptionHelp] = &[
         help: "Judge a controller for the specification in this file",
     },
     OptionHelp {
+        name: "counter-strategy",
+        value: Value::None,
+        help: "With --specification, judge a counter-strategy in place of a controller",
+    },
+    OptionHelp {
         name: "winners",
         value: Value::None,
         help: "Judge the winners of a solution, and not its choices",
@@ -164,7 +181,8 @@ const OPTIONS: &[OptionHelp] = &[
     FILE,
 ];
 
-/// Returns the subcommand that checks a solution of a game, a lasso of an automaton, or a controller.
+/// Returns the subcommand that checks a solution of a game, a lasso of an automaton, a controller or a
+/// counter-strategy.
 pub fn verify_command<'a>(alloc: Global) -> Result<Command<'a>, AllocError>
     ensures { IfOk result (λ command. shape_of command ≡ verify) }
 {

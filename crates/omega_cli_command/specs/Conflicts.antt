@@ -23,6 +23,8 @@ IsUsed name.Effort options = text_of name.Effort options ≢ None
 IsUsed name.Game options = text_of name.Game options ≢ None
 IsUsed name.Automaton options = text_of name.Automaton options ≢ None
 IsUsed name.Specification options = text_of name.Specification options ≢ None
+IsUsed name.CounterStrategy options =
+    GivesFlag (text_of name.CounterStrategy options) true
 IsUsed name.Explain options = GivesFlag (text_of name.Explain options) true
 IsUsed name.Names options = GivesFlag (text_of name.Names options) true
 IsUsed name.Word options = GivesFlag (text_of name.Word options) true
@@ -79,13 +81,16 @@ pub record IsConflict (subcommand : Subcommand) (options : Options)
   pub other_used : IsUsed other options
 
 -- the option of the subcommand that has to be given if this one is. The steps of a depth are counted from a node, and a
--- legend is of a solution, or of a walk that is drawn in place of one. Names are those of an explanation. The lifts of
--- `realize` are bounded and reported only if it lifts. A searcher and an effort are those of a search
+-- legend is of a solution, or of a walk that is drawn in place of one. Names are those of an explanation, and a
+-- counter-strategy is one for a specification. The lifts of `realize` are bounded and reported only if it lifts. A
+-- searcher and an effort are those of a search
 abbrev pub IsNeededBy : OptionName → Subcommand → Options → OptionName → Type 0
 IsNeededBy name.Depth subcommand options option = (subcommand ≡ sub.Draw) × (option ≡ name.From)
 IsNeededBy name.Legend subcommand options option =
     (subcommand ≡ sub.Draw) × (option ≡ name.Solution) × (text_of name.Walk options ≡ None)
 IsNeededBy name.Names subcommand options option = (subcommand ≡ sub.Verify) × (option ≡ name.Explain)
+IsNeededBy name.CounterStrategy subcommand options option =
+    (subcommand ≡ sub.Verify) × (option ≡ name.Specification)
 IsNeededBy name.By subcommand options option = (subcommand ≡ sub.Solve) × (option ≡ name.Search)
 IsNeededBy name.Effort subcommand options option = (subcommand ≡ sub.Solve) × (option ≡ name.Search)
 IsNeededBy name.Budget subcommand options option = (subcommand ≡ sub.Realize) × (option ≡ name.Lift)

@@ -28,6 +28,7 @@ IsRequired name.Game options =
     (text_of name.Automaton options ≡ None) × (text_of name.Specification options ≡ None)
 IsRequired name.Automaton options = ⊥
 IsRequired name.Specification options = ⊥
+IsRequired name.CounterStrategy options = ⊥
 IsRequired name.Explain options = ⊥
 IsRequired name.Names options = ⊥
 IsRequired name.Word options = ⊥
@@ -67,6 +68,7 @@ StandsForNothing name.Effort text = (number : ℕ) → IsNumberText 1 most_effor
 StandsForNothing name.Game text = ⊥
 StandsForNothing name.Automaton text = ⊥
 StandsForNothing name.Specification text = ⊥
+StandsForNothing name.CounterStrategy text = (flag : Bool) → IsTruthText text flag → ⊥
 StandsForNothing name.Explain text = (flag : Bool) → IsTruthText text flag → ⊥
 StandsForNothing name.Names text = (flag : Bool) → IsTruthText text flag → ⊥
 StandsForNothing name.Word text = (flag : Bool) → IsTruthText text flag → ⊥

@@ -19,6 +19,8 @@ text_of name.Effort options = option_map (λ text. text.now) options.effort
 text_of name.Game options = option_map (λ text. text.now) options.game
 text_of name.Automaton options = option_map (λ text. text.now) options.automaton
 text_of name.Specification options = option_map (λ text. text.now) options.specification
+text_of name.CounterStrategy options =
+    option_map (λ text. text.now) options.counter_strategy
 text_of name.Explain options = option_map (λ text. text.now) options.explain
 text_of name.Names options = option_map (λ text. text.now) options.names
 text_of name.Word options = option_map (λ text. text.now) options.word

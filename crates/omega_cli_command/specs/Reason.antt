@@ -56,6 +56,7 @@ IsReason name.Effort text why = IsNumberReason 1 most_effort text why
 IsReason name.Game text why = ⊥
 IsReason name.Automaton text why = ⊥
 IsReason name.Specification text why = ⊥
+IsReason name.CounterStrategy text why = why ≡ reason.NoTruth
 IsReason name.Explain text why = why ≡ reason.NoTruth
 IsReason name.Names text why = why ≡ reason.NoTruth
 IsReason name.Word text why = why ≡ reason.NoTruth

@@ -44,6 +44,7 @@ HasOption subcommand name.Effort = subcommand ≡ sub.Solve
 HasOption subcommand name.Game = subcommand ≡ sub.Verify
 HasOption subcommand name.Automaton = subcommand ≡ sub.Verify
 HasOption subcommand name.Specification = subcommand ≡ sub.Verify
+HasOption subcommand name.CounterStrategy = subcommand ≡ sub.Verify
 HasOption subcommand name.Explain = (subcommand ≡ sub.Verify) ⊎ (subcommand ≡ sub.Accepts)
     ⊎ (subcommand ≡ sub.Contained) ⊎ (subcommand ≡ sub.Equal)
 HasOption subcommand name.Names = (subcommand ≡ sub.Verify) ⊎ (subcommand ≡ sub.Empty)

@@ -29,7 +29,15 @@ HasOther (Some word) (other.Word text) = word ≡ string_bytes text
 abbrev pub AsksOfGame : Options → (from : Option ℕ) → (explain : Bool) → Other → Type 0
 AsksOfGame options from explain source = NamesOther (text_of name.Game options) source
     × (text_of name.Automaton options ≡ None) × (text_of name.Specification options ≡ None)
+    × GivesFlag (text_of name.CounterStrategy options) false
     × GivesNode options from × GivesFlag (text_of name.Explain options) explain
+
+-- `verify`, with these options, asks whether what the input has is right for the specification of a file
+abbrev pub AsksOfSpecification : Options → (explain : Bool) → Other → Type 0
+AsksOfSpecification options explain source = NamesOther (text_of name.Specification options) source
+    × (text_of name.Game options ≡ None) × (text_of name.Automaton options ≡ None)
+    × (text_of name.From options ≡ None) × GivesFlag (text_of name.Winners options) false
+    × GivesFlag (text_of name.Names options) false × GivesFlag (text_of name.Explain options) explain
 
 -- `draw`, with these options, asks for a game, or the part that the node `from` reaches, and for what this option
 -- names to be drawn in it, but not what the other does
@@ -54,13 +62,15 @@ AsksTwoTexts subcommand options (two.VerifyWinners from explain) source =
 AsksTwoTexts subcommand options (two.VerifyLasso explain) source = (subcommand ≡ sub.Verify)
     × NamesOther (text_of name.Automaton options) source × (text_of name.Game options ≡ None)
     × (text_of name.Specification options ≡ None) × (text_of name.From options ≡ None)
+    × GivesFlag (text_of name.CounterStrategy options) false
     × GivesFlag (text_of name.Winners options) false × GivesFlag (text_of name.Names options) false
     × GivesFlag (text_of name.Explain options) explain
-AsksTwoTexts subcommand options (two.VerifyController explain) source = (subcommand ≡ sub.Verify)
-    × NamesOther (text_of name.Specification options) source × (text_of name.Game options ≡ None)
-    × (text_of name.Automaton options ≡ None) × (text_of name.From options ≡ None)
-    × GivesFlag (text_of name.Winners options) false × GivesFlag (text_of name.Names options) false
-    × GivesFlag (text_of name.Explain options) explain
+AsksTwoTexts subcommand options (two.VerifyController explain) source =
+    (subcommand ≡ sub.Verify) × AsksOfSpecification options explain source
+    × GivesFlag (text_of name.CounterStrategy options) false
+AsksTwoTexts subcommand options (two.VerifyCounterStrategy explain) source =
+    (subcommand ≡ sub.Verify) × AsksOfSpecification options explain source
+    × GivesFlag (text_of name.CounterStrategy options) true
 AsksTwoTexts subcommand options (two.Meet trim) source = (subcommand ≡ sub.Meet)
     × NamesOther (text_of name.With options) source × GivesFlag (text_of name.Trim options) trim
 AsksTwoTexts subcommand options two.Join source =

@@ -13,6 +13,7 @@ pub enum OptionName {
     Game,
     Automaton,
     Specification,
+    CounterStrategy,
     Explain,
     Names,
     Word,
@@ -58,6 +59,7 @@ impl fmt::Display for OptionName {
             OptionName::Game => "--game <FILE>",
             OptionName::Automaton => "--automaton <FILE>",
             OptionName::Specification => "--specification <FILE>",
+            OptionName::CounterStrategy => "--counter-strategy",
             OptionName::Explain => "--explain",
             OptionName::Names => "--names",
             OptionName::Word => "--word",
@@ -111,6 +113,8 @@ pub struct Options<'a> {
     pub automaton: Option<&'a str>,
     /// The name of the file of a specification.
     pub specification: Option<&'a str>,
+    /// As `search`.
+    pub counter_strategy: Option<&'a str>,
     /// As `search`.
     pub explain: Option<&'a str>,
     /// As `search`.

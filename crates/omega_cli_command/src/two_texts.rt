@@ -31,6 +31,11 @@ pub enum TwoTexts {
         /// Whether a `no` is explained.
         explain: bool,
     },
+    /// Checks whether the automaton that the input has is a counter-strategy for the specification of the file.
+    VerifyCounterStrategy {
+        /// Whether a `no` is explained.
+        explain: bool,
+    },
     /// Writes an automaton that accepts the words that both accept, the one of the input and the one of the file.
     Meet {
         /// Whether useless states are left out.

@@ -6,6 +6,7 @@ use Rattle.omega_cli_command.specs.declared.two_texts.TwoTexts.TheVariants.{Acce
 use Rattle.omega_cli_command.specs.declared.two_texts.TwoTexts.TheVariants.{ContainedStream, DrawSolution}
 use Rattle.omega_cli_command.specs.declared.two_texts.TwoTexts.TheVariants.{DrawWalk, Equal, Join, Meet}
 use Rattle.omega_cli_command.specs.declared.two_texts.TwoTexts.TheVariants.{Verify, VerifyController}
+use Rattle.omega_cli_command.specs.declared.two_texts.TwoTexts.TheVariants.{VerifyCounterStrategy}
 use Rattle.omega_cli_command.specs.declared.two_texts.TwoTexts.TheVariants.{VerifyLasso, VerifyNamed}
 use Rattle.omega_cli_command.specs.declared.two_texts.TwoTexts.TheVariants.{VerifyWinners}
 use Rattle.omega_io.specs.declared.exit.Exit.{Exit}
@@ -26,6 +27,7 @@ use Rattle.omega_answers_inclusion.specs.AcceptsSome.{IsAcceptsSomeAnswer, IsAcc
 use Rattle.omega_answers_inclusion.specs.Contained.{IsContainedAnswer, IsContainedRefused}
 use Rattle.omega_answers_inclusion.specs.Equal.{IsEqualAnswer, IsEqualRefused}
 use Rattle.omega_answers_stream_questions.specs.Contained as stream
+use Rattle.omega_answers_synth.specs.Counter.{IsCounterAnswer, IsCounterRefused}
 use Rattle.omega_answers_synth.specs.Verify.{IsControllerAnswer, IsControllerRefused}
 use Rattle.omega_answers_walk.specs.Draw.{IsWalkDrawingAnswer, RefusesWalk}
 use Rattle.omega_answers_walk.specs.Verify.{IsNamedVerifyAnswer}
@@ -50,6 +52,7 @@ AnswersTwoTexts (VerifyWinners from explain) other input = IsWinnersAnswer other
 AnswersTwoTexts (VerifyLasso explain) other input = IsLassoAnswer other input explain
 AnswersTwoTexts (VerifyController explain) other input =
     IsControllerAnswer other input explain
+AnswersTwoTexts (VerifyCounterStrategy explain) other input = IsCounterAnswer other input explain
 AnswersTwoTexts (Accepts explain) other input = IsAcceptsAnswer other input explain
 AnswersTwoTexts (AcceptsSome explain) other input = IsAcceptsSomeAnswer other input explain
 AnswersTwoTexts (Meet false) other input = IsDoneWith (IsMeetAnswer other input)
@@ -76,6 +79,8 @@ name_of (VerifyLasso explain) File = codes "automaton"
 name_of (VerifyLasso explain) Input = codes "lasso"
 name_of (VerifyController explain) File = codes "specification"
 name_of (VerifyController explain) Input = codes "controller"
+name_of (VerifyCounterStrategy explain) File = codes "specification"
+name_of (VerifyCounterStrategy explain) Input = codes "counter-strategy"
 name_of (Accepts explain) File = codes "word"
 name_of (Accepts explain) Input = codes "automaton"
 name_of (AcceptsSome explain) File = codes "word"
@@ -105,6 +110,7 @@ RefusesTwoTexts (VerifyWinners from explain) other input =
     IsRefusedOf (IsWinnersGameRefusal other from input) (RefusesWinners other from input)
 RefusesTwoTexts (VerifyLasso explain) other input = IsLassoRefused other input
 RefusesTwoTexts (VerifyController explain) other input = IsControllerRefused other input
+RefusesTwoTexts (VerifyCounterStrategy explain) other input = IsCounterRefused other input
 RefusesTwoTexts (Accepts explain) other input = IsAcceptsRefused other input
 RefusesTwoTexts (AcceptsSome explain) other input = IsAcceptsSomeRefused other input
 RefusesTwoTexts (Meet false) other input = IsMeetRefused other input

@@ -115,6 +115,7 @@ fn names_of(command: TwoTexts) -> (&'static str, &'static str)
         }
         TwoTexts::VerifyLasso { .. } => ("automaton", "lasso"),
         TwoTexts::VerifyController { .. } => ("specification", "controller"),
+        TwoTexts::VerifyCounterStrategy { .. } => ("specification", "counter-strategy"),
         TwoTexts::Accepts { .. } | TwoTexts::AcceptsSome { .. } => ("word", "automaton"),
         TwoTexts::Meet { .. }
         | TwoTexts::Join

@@ -11,7 +11,7 @@ use omega_answers_automaton::{join_texts, meet_texts, meet_trimmed_texts, verify
 use omega_answers_game::{draw_solution_text, verify_solution, verify_winners};
 use omega_answers_inclusion::{accepts_some_text, accepts_text, contained_texts, equal_texts};
 use omega_answers_stream_questions::contained_stream;
-use omega_answers_synth::verify_controller;
+use omega_answers_synth::{verify_controller, verify_counter_strategy};
 use omega_answers_walk::{draw_walk_text, verify_with_names};
 use omega_cli_command::TwoTexts;
 use omega_io::{Exit, Refused};
@@ -39,6 +39,9 @@ pub(crate) fn answer_two_texts(
         }
         TwoTexts::VerifyLasso { explain } => verify_lasso(alloc, other, input, explain),
         TwoTexts::VerifyController { explain } => verify_controller(alloc, other, input, explain),
+        TwoTexts::VerifyCounterStrategy { explain } => {
+            verify_counter_strategy(alloc, other, input, explain)
+        }
         TwoTexts::Accepts { explain } => accepts_text(alloc, other, input, explain),
         TwoTexts::AcceptsSome { explain } => accepts_some_text(alloc, other, input, explain),
         TwoTexts::Meet { trim: false } => Ok((Exit::Done, meet_texts(alloc, other, input)?)),

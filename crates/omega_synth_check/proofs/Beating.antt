@@ -12,7 +12,8 @@ use Rattle.omega_hoa_edges.specs.Determinism.{IsDeterministic}
 use Rattle.omega_lang_runs.specs.Lasso.{IsStart, IsStep, marks_at}
 use Rattle.omega_lang_runs.specs.Runs.{Satisfies}
 use Rattle.omega_lang_runs.specs.Words.{IsAccepted}
-use Rattle.omega_lang_word_laws.specs.NamedWords.{AcceptsNamed, NamedWord, part_of}
+use Rattle.omega_text.specs.NamedWords.{NamedWord}
+use Rattle.omega_lang_word_laws.specs.NamedWords.{AcceptsNamed, part_of}
 use Rattle.omega_lang_product.specs.Pairs.{start_state}
 use Rattle.omega_lang_word_laws.proofs.meeting.Meeting.{one_start}
 use Rattle.omega_lang_word_laws.proofs.naming.Named.{accepted_same, allowed_same, own_place}

@@ -1,6 +1,6 @@
 -- A judgement is `Beats` exactly for a counter-strategy.
 use Rattle.std.proofs.Common.{◌≡◌, refl}
-use Rattle.omega_lang_inclusion.specs.declared.containment.Counterexample.{Counterexample}
+use Rattle.omega_lang_intersection.specs.declared.answer.Example.{Example}
 use Rattle.omega_synth_check.specs.CounterLaws.{CounterJudgementsAreExact}
 use Rattle.omega_synth_check.specs.declared.counter_judgement.CounterJudgement.TheVariants.{Beats, Common, NoLetter, NoStart}
 use Rattle.omega_synth_check.specs.declared.counter_judgement.LetterlessPair.{LetterlessPair}
@@ -11,7 +11,7 @@ none_beats is = cc
 pair_beats : (pair : LetterlessPair) → NoLetter pair ≡ Beats → ⊥
 pair_beats pair is = cc
 
-word_beats : (example : Counterexample) → Common example ≡ Beats → ⊥
+word_beats : (example : Example) → Common example ≡ Beats → ⊥
 word_beats example is = cc
 
 pub counter_judgements_are_exact : CounterJudgementsAreExact

@@ -3,10 +3,11 @@
 -- the specification does. The system controls the propositions with some names, and the environment all others.
 use Rattle.std.specs.Prelude.{◌≡◌, ℕ, Bool, List, [], Contains, slice_index_or}
 use Rattle.omega_hoa_automaton.specs.Automaton.{Description}
-use Rattle.omega_lang_inclusion.specs.Common.{IsCommonExample}
+use Rattle.omega_lang_intersection.specs.Intersection.{AcceptBoth, HaveStrings, IsExample}
 use Rattle.omega_lang_runs.specs.Lasso.{IsStart, IsStep, Leads}
 use Rattle.omega_lang_runs.specs.Words.{CanBeTaken}
-use Rattle.omega_lang_word_laws.specs.NamedWords.{AcceptsNamed, NamedWord}
+use Rattle.omega_text.specs.NamedWords.{NamedWord}
+use Rattle.omega_lang_word_laws.specs.NamedWords.{AcceptsNamed}
 use Rattle.omega_synth_check.specs.declared.counter_judgement.CounterJudgement.{CounterJudgement}
 use Rattle.omega_synth_check.specs.declared.counter_judgement.CounterJudgement.TheVariants.{Beats, Common}
 use Rattle.omega_synth_check.specs.declared.counter_judgement.CounterJudgement.TheVariants.{NoLetter, NoStart}
@@ -85,4 +86,4 @@ IsCounterJudgement specification strategy controlled (NoLetter pair) =
     BeginsBeside specification strategy × IsLetterless specification strategy controlled pair
 IsCounterJudgement specification strategy controlled (Common example) =
     BeginsBeside specification strategy × FollowsAll specification strategy controlled
-    × IsCommonExample strategy specification example
+    × IsExample strategy (HaveStrings strategy specification) (AcceptBoth strategy specification) example

@@ -1,4 +1,4 @@
-use omega_lang_inclusion::Counterexample;
+use omega_lang_intersection::Example;
 use omega_text::Seq;
 
 /// Whether an automaton is a counter-strategy for a specification.
@@ -11,7 +11,7 @@ pub enum CounterJudgement {
     /// It comes to a state in which the environment has no letter such that it goes on at each answer.
     NoLetter(LetterlessPair),
     /// It accepts a word that the specification accepts too.
-    Common(Counterexample),
+    Common(Example),
 }
 
 /// A state of a counter-strategy and one of its specification, to which both come by the same letters. Whatever letter

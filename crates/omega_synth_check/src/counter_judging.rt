@@ -3,7 +3,7 @@
 ghost use Rattle.std.specs.Prelude.{◌≡◌, IfErr, IfOk, OnOk, false};
 ghost use Rattle.omega_hoa_automaton.specs.Branching.{has_universal_branching};
 ghost use Rattle.omega_hoa_edges.specs.Determinism.{IsDeterministic};
-ghost use Rattle.omega_lang_inclusion.specs.Common.{AreCommonFound};
+ghost use Rattle.omega_lang_intersection.specs.Intersection.{IsIntersection};
 ghost use Rattle.omega_synth_check.specs.CounterJudging.{IsCounterJudgement};
 ghost use Rattle.omega_synth_check.specs.CounterRefusing.{AreCounterJudged, IsCounterRefusal, IsUndetermined};
 ghost use Rattle.omega_synth_check.specs.private.Letterless.{IsLetterlessFound};
@@ -13,7 +13,7 @@ use crate::letterless::letterless_pair;
 use crate::reading::judge_form;
 use omega_hoa_automaton::{Automaton, Refusal, has_universal_branching};
 use omega_hoa_edges::{check_deterministic_states, check_one_start};
-use omega_lang_inclusion::{Counterexample, common_words};
+use omega_lang_intersection::{Intersection, intersection};
 use omega_text::{ByteString, TaskFault};
 use std::alloc::Global;
 
@@ -65,7 +65,7 @@ pub fn judge_counter_strategy(
 {
     judge_form(strategy)?;
     let letterless = letterless_pair(alloc, specification, strategy, controlled)?;
-    let common = common_words(alloc, strategy, specification)?;
+    let common = intersection(alloc, strategy, specification)?;
     Ok(counter_judgement_of(
         specification,
         strategy,
@@ -82,12 +82,12 @@ fn counter_judgement_of(
     strategy: &Automaton,
     _controlled: &[ByteString],
     letterless: Option<LetterlessPair>,
-    common: Option<Counterexample>,
+    common: Intersection,
 ) -> CounterJudgement
     requires specified { has_universal_branching specification.now ≡ false }
     requires plain { has_universal_branching strategy.now ≡ false }
     requires letterless { IsLetterlessFound specification.now strategy.now _controlled.now letterless }
-    requires common { AreCommonFound strategy.now specification.now common }
+    requires common { IsIntersection strategy.now specification.now common }
     ensures { IsCounterJudgement specification.now strategy.now _controlled.now result }
 {
     specification.keeps_limits();
@@ -98,8 +98,8 @@ fn counter_judgement_of(
     match letterless {
         Some(pair) => CounterJudgement::NoLetter(pair),
         None => match common {
-            Some(example) => CounterJudgement::Common(example),
-            None => CounterJudgement::Beats,
+            Intersection::Common(example) => CounterJudgement::Common(example),
+            Intersection::Empty => CounterJudgement::Beats,
         },
     }
 }

@@ -1,5 +1,5 @@
 //! The task that `verify` requests.
-ghost use Rattle.std.specs.Prelude.{◌≡◌, IfErr, IfOk, None, Some};
+ghost use Rattle.std.specs.Prelude.{◌≡◌, IfErr, IfOk, None, Some, false};
 ghost use Rattle.omega_cli_command.specs.Mistakes.{IsMistake};
 ghost use Rattle.omega_cli_command.specs.Options.{text_of};
 ghost use Rattle.omega_cli_command.specs.Task.{AsksFor};
@@ -23,8 +23,20 @@ pub(crate) fn verify_task<'a>(alloc: Global, options: &Options<'a>) -> Result<Ta
     let explain = is_set(OptionName::Explain, options.explain)?;
     let winners = is_set(OptionName::Winners, options.winners)?;
     let names = is_set(OptionName::Names, options.names)?;
+    let counter_strategy = is_set(OptionName::CounterStrategy, options.counter_strategy)?;
     if let Some(specification) = options.specification {
-        return controller_task(alloc, options, specification, explain, winners, names);
+        return specified_task(
+            alloc,
+            options,
+            specification,
+            counter_strategy,
+            explain,
+            winners,
+            names,
+        );
+    }
+    if counter_strategy {
+        return Err(Mistake::Missing(OptionName::Specification));
     }
     if let Some(automaton) = options.automaton {
         return lasso_task(alloc, options, automaton, explain, winners, names);
@@ -43,6 +55,7 @@ fn solution_task<'a>(
 ) -> Result<Task, Mistake<'a>>
     requires unspecified { text_of name.Specification options.now ≡ None }
     requires no_automaton { text_of name.Automaton options.now ≡ None }
+    requires no_strategy { GivesFlag (text_of name.CounterStrategy options.now) false }
     requires explain { GivesFlag (text_of name.Explain options.now) explain }
     requires winners { GivesFlag (text_of name.Winners options.now) winners }
     requires names { GivesFlag (text_of name.Names options.now) names }
@@ -88,6 +101,7 @@ fn lasso_task<'a>(
 ) -> Result<Task, Mistake<'a>>
     requires unspecified { text_of name.Specification options.now ≡ None }
     requires automaton { text_of name.Automaton options.now ≡ Some automaton.now }
+    requires no_strategy { GivesFlag (text_of name.CounterStrategy options.now) false }
     requires explain { GivesFlag (text_of name.Explain options.now) explain }
     requires winners { GivesFlag (text_of name.Winners options.now) winners }
     requires names { GivesFlag (text_of name.Names options.now) names }
@@ -110,15 +124,17 @@ fn lasso_task<'a>(
 }
 
 /// Returns the task that `verify` requests with `options` that name a specification, or what is wrong with them.
-fn controller_task<'a>(
+fn specified_task<'a>(
     alloc: Global,
     options: &Options<'a>,
     specification: &'a str,
+    counter_strategy: bool,
     explain: bool,
     winners: bool,
     names: bool,
 ) -> Result<Task, Mistake<'a>>
     requires specification { text_of name.Specification options.now ≡ Some specification.now }
+    requires counter_strategy { GivesFlag (text_of name.CounterStrategy options.now) counter_strategy }
     requires explain { GivesFlag (text_of name.Explain options.now) explain }
     requires winners { GivesFlag (text_of name.Winners options.now) winners }
     requires names { GivesFlag (text_of name.Names options.now) names }
@@ -140,5 +156,10 @@ fn controller_task<'a>(
     if names {
         return Err(Mistake::Conflict(OptionName::Specification, OptionName::Names));
     }
-    Task::with_file(alloc, TwoTexts::VerifyController { explain }, specification)
+    if counter_strategy {
+        let asked = TwoTexts::VerifyCounterStrategy { explain };
+        Task::with_file(alloc, asked, specification)
+    } else {
+        Task::with_file(alloc, TwoTexts::VerifyController { explain }, specification)
+    }
 }

@@ -1,6 +1,6 @@
 -- no start, no letter, a common word, or none of these
 use Rattle.std.proofs.Common.{length, ap, subst, arith}
-use Rattle.omega_lang_inclusion.specs.Common.{AreCommonFound}
+use Rattle.omega_lang_intersection.specs.Intersection.{IsIntersection}
 use Rattle.omega_synth_check.specs.private.Letterless.{IsLetterlessFound}
 use Rattle.omega_synth_check.proofs.Begins.{begins_beside, starts_nowhere}
 use Rattle.omega_synth_check.proofs.counter_judging.counter_judgement_of.Goals as goal
@@ -23,8 +23,8 @@ returns-in-Some c =
       subst (IsLetterlessFound one own c.args._controlled.now) c.in-Some.is c.requires.letterless,
     )
 
-pub returns-in-Some-common : goal.returns-in-Some-common
-returns-in-Some-common c =
+pub returns-in-Common : goal.returns-in-Common
+returns-in-Common c =
     let one = c.args.specification.now in
     let own = c.args.strategy.now in (
       begins_beside one own c.keeps_limits-2.ensures c.requires.plain
@@ -33,11 +33,11 @@ returns-in-Some-common c =
         | else-starts-eq0-via-else-starts-eq0 w ↦ λ e. absurd (omega (arith, e, w.if-starts-eq0.false, ap length c.starts.ensures))
       ]),
       subst (IsLetterlessFound one own c.args._controlled.now) c.in-None.is c.requires.letterless,
-      subst (AreCommonFound own one) c.in-Some-common.is c.requires.common,
+      subst (IsIntersection own one) c.in-Common.is c.requires.common,
     )
 
-pub returns-in-None-common : goal.returns-in-None-common
-returns-in-None-common c =
+pub returns-in-Empty : goal.returns-in-Empty
+returns-in-Empty c =
     let one = c.args.specification.now in
     let own = c.args.strategy.now in
     record {
@@ -47,5 +47,6 @@ returns-in-None-common c =
             | else-starts-eq0-via-else-starts-eq0 w ↦ λ e. absurd (omega (arith, e, w.if-starts-eq0.false, ap length c.starts.ensures))
           ]);
       follows = subst (IsLetterlessFound one own c.args._controlled.now) c.in-None.is c.requires.letterless;
-      refused = subst (AreCommonFound own one) c.in-None-common.is c.requires.common;
+      refused = λ word first second.
+          subst (IsIntersection own one) c.in-Empty.is c.requires.common word (record { first = first; second = second });
     }
