@@ -46,7 +46,7 @@ pushed_name names places i name before now more below named is pushed =
     let named_at : ℕ → List ℕ = λ number. slice_index_or names number [] in
     pushed ∙ ap (λ (xs : List (List ℕ)). xs ++ name ∷ []) is ∙ append_assoc before (names_at names (take i places)) (name ∷ [])
     ∙ ap (λ (xs : List (List ℕ)). before ++ xs)
-      (ap (λ (n : List ℕ). names_at names (take i places) ++ n ∷ []) named ∙ sym (map_more named_at places i 0 below))
+    (ap (λ (n : List ℕ). names_at names (take i places) ++ n ∷ []) named ∙ sym (map_more named_at places i 0 below))
 
 -- the names are one list
 pub names_one : (specification other : Description) (ones others : List (List ℕ)) → AreSystemNames specification other ones → AreSystemNames specification other others
@@ -54,9 +54,9 @@ pub names_one : (specification other : Description) (ones others : List (List �
 names_one specification other ones others one also =
     one.are
     ∙ ap (λ (numbers : List ℕ). names_at specification.propositions numbers ++ names_at other.propositions one.controlled)
-      (controlled_one specification one.stated also.stated one.specified also.specified)
+    (controlled_one specification one.stated also.stated one.specified also.specified)
     ∙ ap (λ (numbers : List ℕ). names_at specification.propositions also.stated ++ names_at other.propositions numbers)
-      (controlled_one other one.controlled also.controlled one.own also.own)
+    (controlled_one other one.controlled also.controlled one.own also.own)
     ∙ sym also.are
 
 -- and the specification's numbers are those of its own item

@@ -62,8 +62,16 @@ pub(crate) fn system_names(
     ensures memory { IsOkUnless result Refusal.Memory }
 {
     let mut names = Vec::new(alloc);
-    append_names(specification.propositions(), parted.stated.as_slice(), &mut names)?;
-    append_names(other.propositions(), parted.controlled.as_slice(), &mut names)?;
+    append_names(
+        specification.propositions(),
+        parted.stated.as_slice(),
+        &mut names,
+    )?;
+    append_names(
+        other.propositions(),
+        parted.controlled.as_slice(),
+        &mut names,
+    )?;
     Ok(names)
 }
 

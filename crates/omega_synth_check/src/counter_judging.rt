@@ -66,13 +66,7 @@ pub fn judge_counter_strategy(
     judge_form(strategy)?;
     let letterless = letterless_pair(alloc, specification, strategy, controlled)?;
     let common = intersection(alloc, strategy, specification)?;
-    Ok(counter_judgement_of(
-        specification,
-        strategy,
-        controlled,
-        letterless,
-        common,
-    ))
+    Ok(counter_judgement_of(specification, strategy, controlled, letterless, common))
 }
 
 /// Returns the judgement on `strategy`, by the pair without a letter that was found, and by the words that it has in

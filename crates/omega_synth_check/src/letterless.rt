@@ -64,7 +64,15 @@ fn letterless_beside(
 {
     let joint = product(alloc, specification, rest)?;
     let graph = pair_graph(alloc, specification, rest)?;
-    letterless_in(alloc, specification, strategy, rest, &joint, &graph, controlled)
+    letterless_in(
+        alloc,
+        specification,
+        strategy,
+        rest,
+        &joint,
+        &graph,
+        controlled,
+    )
 }
 
 /// Returns what [letterless_pair] returns, where `rest` is the complement of `strategy`, and `joint` its product with

@@ -122,7 +122,13 @@ fn way_out_at(
     enter_all(alloc, search, met, at, numbers)?;
     let places = search.leaving.places.as_slice();
     let out = flagged(alloc, numbers, ways_out)?;
-    let number = blocking_edge(alloc, search.automaton, places, out.as_slice(), search.controlled)?;
+    let number = blocking_edge(
+        alloc,
+        search.automaton,
+        places,
+        out.as_slice(),
+        search.controlled,
+    )?;
     Ok(number)
 }
 

@@ -16,10 +16,10 @@ returns-in-Some c =
     let one = c.args.specification.now in
     let own = c.args.strategy.now in (
       begins_beside one own c.keeps_limits-2.ensures c.requires.plain
-      (elim c.else-starts-eq0.branch [
-        | else-starts-eq0-via-then-starts-eq0+else-starts-gt0 w ↦ λ e. omega (arith, w.if-starts-gt0.false, ap length w.starts-then-starts-eq0.ensures)
-        | else-starts-eq0-via-else-starts-eq0 w ↦ λ e. absurd (omega (arith, e, w.if-starts-eq0.false, ap length c.starts.ensures))
-      ]),
+          (elim c.else-starts-eq0.branch [
+            | else-starts-eq0-via-then-starts-eq0+else-starts-gt0 w ↦ λ e. omega (arith, w.if-starts-gt0.false, ap length w.starts-then-starts-eq0.ensures)
+            | else-starts-eq0-via-else-starts-eq0 w ↦ λ e. absurd (omega (arith, e, w.if-starts-eq0.false, ap length c.starts.ensures))
+          ]),
       subst (IsLetterlessFound one own c.args._controlled.now) c.in-Some.is c.requires.letterless,
     )
 
@@ -28,10 +28,10 @@ returns-in-Common c =
     let one = c.args.specification.now in
     let own = c.args.strategy.now in (
       begins_beside one own c.keeps_limits-2.ensures c.requires.plain
-      (elim c.else-starts-eq0.branch [
-        | else-starts-eq0-via-then-starts-eq0+else-starts-gt0 w ↦ λ e. omega (arith, w.if-starts-gt0.false, ap length w.starts-then-starts-eq0.ensures)
-        | else-starts-eq0-via-else-starts-eq0 w ↦ λ e. absurd (omega (arith, e, w.if-starts-eq0.false, ap length c.starts.ensures))
-      ]),
+          (elim c.else-starts-eq0.branch [
+            | else-starts-eq0-via-then-starts-eq0+else-starts-gt0 w ↦ λ e. omega (arith, w.if-starts-gt0.false, ap length w.starts-then-starts-eq0.ensures)
+            | else-starts-eq0-via-else-starts-eq0 w ↦ λ e. absurd (omega (arith, e, w.if-starts-eq0.false, ap length c.starts.ensures))
+          ]),
       subst (IsLetterlessFound one own c.args._controlled.now) c.in-None.is c.requires.letterless,
       subst (IsIntersection own one) c.in-Common.is c.requires.common,
     )
