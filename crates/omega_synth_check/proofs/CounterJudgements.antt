@@ -24,5 +24,5 @@ counter_judgements_are_exact specification strategy controlled (NoLetter pair) r
     (λ is. absurd (pair_beats pair is), λ for. absurd (right.1.none (for.follows pair.against pair.state right.1.come)))
 counter_judgements_are_exact specification strategy controlled (Common example) right = (
   λ is. absurd (word_beats example is),
-  λ for. absurd (for.refused right.2.word right.2.common.accepted right.2.common.also),
+  λ for. absurd (for.refused right.2.word right.2.wanted.first right.2.wanted.second),
 )

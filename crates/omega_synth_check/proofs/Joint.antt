@@ -28,9 +28,10 @@ use Rattle.omega_lang_word_laws.proofs.meeting.Found.{number_below, number_tells
 use Rattle.omega_lang_word_laws.proofs.meeting.Lists.{beside_left, contains_filter, contains_flat_map, contains_map, flat_map_contains, index_of, map_contains, same_some}
 use Rattle.omega_lang_word_laws.proofs.meeting.Meeting.{leads_to, one_start}
 use Rattle.omega_lang_word_laws.proofs.meeting.Transitions.{IsListedAt, numbered_found}
-use Rattle.omega_lang_inclusion.proofs.Formulas.{named_first}
-use Rattle.omega_lang_inclusion.proofs.Made.{IsMade, made, numbered_within}
-use Rattle.omega_lang_inclusion.proofs.Standing.{Row, label_is, product_named, row, second_is}
+use Rattle.omega_lang_intersection.proofs.Formulas.{named_first}
+use Rattle.omega_lang_intersection.proofs.Made.{IsMade, made}
+use Rattle.omega_synth_check.proofs.JoinedNames.{numbered_within}
+use Rattle.omega_lang_intersection.proofs.Standing.{Row, label_is, product_named, row, second_is}
 use Rattle.omega_synth_check.specs.CounterJudging.{GoesAt, NamedLetter}
 use Rattle.omega_synth_check.specs.private.Letterless.{enters_sink, is_way_out, source_in, source_of}
 use Rattle.omega_synth_check.proofs.Sides.{AreNamedAmong, IsSeenEdge, named_second, seen, seen_edge, side_goes}
