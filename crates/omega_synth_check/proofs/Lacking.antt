@@ -19,7 +19,7 @@ use Rattle.omega_lang_word_laws.proofs.parting.Plain.{or_parts}
 use Rattle.omega_lang_intersection.proofs.Made.{IsMade, left_by, made}
 use Rattle.omega_lang_intersection.proofs.Paths.{firsts_lead, starts_lead, state}
 use Rattle.omega_lang_intersection.proofs.Standing.{Row, all_usable, product_named, row, searchable}
-use Rattle.omega_lang_inclusion.specs.private.Named.{IsNamed}
+use Rattle.omega_lang_intersection.specs.private.Named.{IsNamed}
 use Rattle.omega_synth_check.specs.CounterJudging.{ComeTo, FollowsAll, HasLetter, IsLetterless}
 use Rattle.omega_synth_check.specs.CounterRefusing.{system_numbers}
 use Rattle.omega_synth_check.specs.Judging.{IsReached}
