@@ -139,9 +139,9 @@ trees_named names bytes trees (node ∷ nodes) placed =
     let own = over_named names bytes (tree_among trees) (length trees + 0) node (placed 0 (omega arith)) in
     ap (λ (tree : FormulaTree). trees_from (names ++ bytes ∷ []) (trees ++ tree ∷ []) nodes) own
     ∙ trees_named names bytes (trees ++ tree_over names (tree_among trees) node ∷ []) nodes (λ k within.
-        let more = length_push trees (tree_over names (tree_among trees) node) in
-        let there : length trees + suc k ≡ length (trees ++ tree_over names (tree_among trees) node ∷ []) + k = omega (arith, more) in
-        subst (λ n. IsPlaced (length names) n (node_at nodes k)) there (placed (suc k) (omega (arith, within))))
+    let more = length_push trees (tree_over names (tree_among trees) node) in
+    let there : length trees + suc k ≡ length (trees ++ tree_over names (tree_among trees) node ∷ []) + k = omega (arith, more) in
+    subst (λ n. IsPlaced (length names) n (node_at nodes k)) there (placed (suc k) (omega (arith, within))))
 
 -- a table with one name more is one, with the same formulas
 module _ (names : List (List ℕ)) (nodes : List FormulaNode) (bytes : List ℕ) (is : IsTable (tabled names nodes)) where

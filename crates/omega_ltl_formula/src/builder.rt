@@ -130,10 +130,7 @@ impl FormulaBuilder {
 }
 
 /// Returns the number of `node` among `nodes`, to which it is added if it is not among them.
-fn number_of_node(
-    nodes: &mut IndexSet<FormulaNode>,
-    node: FormulaNode,
-) -> Result<usize, Refusal>
+fn number_of_node(nodes: &mut IndexSet<FormulaNode>, node: FormulaNode) -> Result<usize, Refusal>
     ensures nodes { OnOk result (IsWith nodes.old.keys node nodes.new.keys) }
     ensures number { IfOk result (λ number. slice_get nodes.new.keys number ≡ Some node) }
     ensures err { OnErr result (nodes.new.keys ≡ nodes.old.keys) }
