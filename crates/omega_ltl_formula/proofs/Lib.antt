@@ -6,3 +6,8 @@ pub mod Others
 pub mod Duals
 pub mod Unfolding
 pub mod Tables
+pub mod Equality
+pub mod Keys
+pub mod Growing
+pub mod Putting
+pub mod Measuring

@@ -51,7 +51,7 @@ tree_placed names count trees (node ∷ nodes) zero within placed =
     ∙ trees_kept names (trees ++ own ∷ []) nodes (length trees) (let more = length_push trees own in omega (arith, more))
     ∙ get_or_push trees own (constant false) (length trees) refl
     ∙ over_alike names (tree_among trees) (tree_among all) count (length trees + 0) node placed (λ k below.
-        sym (trees_kept names trees (node ∷ nodes) k (omega (arith, below))))
+    sym (trees_kept names trees (node ∷ nodes) k (omega (arith, below))))
   where
     own : FormulaTree
     own = tree_over names (tree_among trees) node

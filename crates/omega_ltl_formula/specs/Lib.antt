@@ -4,4 +4,6 @@ pub mod Formula
 pub mod Meaning
 pub mod Limits
 pub mod Table
+pub mod Building
 pub mod Laws
+pub mod private

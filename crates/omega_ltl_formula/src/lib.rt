@@ -4,12 +4,16 @@
 //! `specs/Meaning.antt` at which indices of a word a formula holds.
 #![tactic(auto)]
 
+mod builder;
 mod formula;
 mod laws;
 mod limits;
+mod measures;
+mod names;
 mod node;
 mod operators;
 
+pub use builder::FormulaBuilder;
 pub use formula::Formula;
 pub use laws::{
     duals_hold, formulas_are_decided, nodes_are_over_nodes, operators_by_others, operators_unfold,
