@@ -1,6 +1,6 @@
 -- Words as sets of the numbers of their bits.
-use Rattle.std.proofs.Common.{◌≡◌, ◌⊎◌, inl, inr, ◌<◌, ◌≤◌, ◌+◌, ◌*◌, ◌/◌, ◌%◌, ◌^◌, ◌↔◌, ℕ, zero, suc, Bool, true, false, not, max, min, refl, sym, ap, subst, ◌∙◌, arith, eqb, bit_and}
-use Rattle.std.specs.Prelude.{IsTrue, bit_or, ◌||◌}
+use Rattle.std.proofs.Common.{◌≡◌, ◌⊎◌, inl, inr, ◌<◌, ◌≤◌, ◌*◌, ◌/◌, ◌%◌, ◌^◌, ◌↔◌, ℕ, false, not, max, min, sym, ap, subst, ◌∙◌, arith, eqb, bit_and}
+use Rattle.std.specs.Prelude.{IsTrue, bit_or}
 use Rattle.std.specs.Int.{bit_at, trailing_zeros, w64}
 use Rattle.std.proofs.lemmas.Bool.{cases_eq, eq-eqb, eqb-true, false≢true, ne_eqb, not_from_false}
 use Rattle.std.proofs.lemmas.Nat.{and_le_l}
@@ -27,10 +27,11 @@ none_in_zero place = ap (λ b. eqb b 1) (bit_at-zero place)
 pub or_bits : (one other : ℕ) → HasBitsOfBoth one other (bit_or one other)
 or_bits one other place = (
   λ h.
-    let both : max (bit_at one place) (bit_at other place) ≡ 1 = sym (bit_at_or one other place) ∙ set_bit (bit_or one other) place h in
-    elim (cases_eq (bit_at one place) 1) [
-      inl sure ↦ inl (bit_set one place sure)
-    | inr never ↦ inr (bit_set other place (let low : bit_at one place < 2 = bit_at-lt one place in omega arith)) ],
+      let both : max (bit_at one place) (bit_at other place) ≡ 1 = sym (bit_at_or one other place) ∙ set_bit (bit_or one other) place h in
+      elim (cases_eq (bit_at one place) 1) [
+        | inl sure ↦ inl (bit_set one place sure)
+        | inr never ↦ inr (bit_set other place (let low : bit_at one place < 2 = bit_at-lt one place in omega arith))
+      ],
   λ h. bit_set (bit_or one other) place (bit_at_or one other place ∙ joined h),
 )
   where
@@ -47,8 +48,9 @@ within_bits more word has = same_from_bits (bit_or more word) more (λ i. bit_at
   where
     greater : (i : ℕ) → max (bit_at more i) (bit_at word i) ≡ bit_at more i
     greater i = elim (cases_eq (bit_at word i) 1) [
-        inl sure ↦ (let a : bit_at more i ≡ 1 = set_bit more i (has i (bit_set word i sure)) in omega arith)
-      | inr never ↦ (let low : bit_at word i < 2 = bit_at-lt word i in omega arith) ]
+      | inl sure ↦ (let a : bit_at more i ≡ 1 = set_bit more i (has i (bit_set word i sure)) in omega arith)
+      | inr never ↦ (let low : bit_at word i < 2 = bit_at-lt word i in omega arith)
+    ]
 
 pub bits_iff : (more word : ℕ) → IsTrue (eqb (bit_or more word) more) ↔ HasBits word more
 bits_iff more word = (
@@ -81,15 +83,16 @@ common_iff one other small = (
 
 pub one_more : (word place : ℕ) → place < 64 → HasOneMore word place (bit_or word (1 * 2 ^ place % 2 ^ 64))
 one_more word place small other = elim (cases_eq other place) [
-    inl same ↦ (
-      (λ h. inr same),
-      (λ h. bit_set (bit_or word (1 * 2 ^ place % 2 ^ 64)) other
+  | inl same ↦ (
+    (λ h. inr same),
+    (λ h. bit_set (bit_or word (1 * 2 ^ place % 2 ^ 64)) other
         (subst (λ (o : ℕ). bit_at (bit_or word (1 * 2 ^ place % 2 ^ 64)) o ≡ 1) (sym same) (bit_at_set_same w64 word place small))),
-    )
+  )
   | inr differ ↦ (
-      (λ h. inl (bit_set word other (sym (bit_at_set_other w64 word place small other differ) ∙ set_bit (bit_or word (1 * 2 ^ place % 2 ^ 64)) other h))),
-      (λ h. bit_set (bit_or word (1 * 2 ^ place % 2 ^ 64)) other (bit_at_set_other w64 word place small other differ ∙ kept differ h)),
-    ) ]
+    (λ h. inl (bit_set word other (sym (bit_at_set_other w64 word place small other differ) ∙ set_bit (bit_or word (1 * 2 ^ place % 2 ^ 64)) other h))),
+    (λ h. bit_set (bit_or word (1 * 2 ^ place % 2 ^ 64)) other (bit_at_set_other w64 word place small other differ ∙ kept differ h)),
+  )
+]
   where
     kept : (other ≡ place → ⊥) → (IsTrue (is_set word other) ⊎ (other ≡ place)) → bit_at word other ≡ 1
     kept differ (inl h) = set_bit word other h

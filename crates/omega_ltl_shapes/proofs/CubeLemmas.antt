@@ -1,8 +1,7 @@
 -- Cubes by the bits of their words.
-use Rattle.std.proofs.Common.{◌≡◌, ◌⊎◌, inl, inr, ◌<◌, ◌↔◌, ℕ, Bool, true, false, refl, sym, ap, subst, ◌∙◌, arith}
-use Rattle.std.specs.Prelude.{IsTrue}
+use Rattle.std.proofs.Common.{◌≡◌, inl, inr, ℕ, Bool, true, false, refl, sym, subst, ◌∙◌}
 use Rattle.std.proofs.lemmas.Bool.{false≢true, true≢false}
-use Rattle.omega_ltl_shapes.specs.Covers.{HasLiteral, is_set}
+use Rattle.omega_ltl_shapes.specs.Covers.{HasLiteral}
 use Rattle.omega_ltl_shapes.specs.Terms.{AreContradictory, HasBits, HasBitsOfBoth, HasLiterals, HasOneMore, HaveCommonBit, IsCubeOfBoth, IsCubeWith, IsLiteralCube, no_literals}
 use Rattle.omega_ltl_shapes.specs.declared.cube.Cube.{Cube}
 use Rattle.omega_ltl_shapes.proofs.BitLemmas.{none_in_zero}
@@ -40,8 +39,9 @@ no_literal name true h = false≢true (sym (none_in_zero name) ∙ h)
 pub literal_cube : (empty cube : Cube) (name : ℕ) (negated : Bool) → empty ≡ no_literals → IsCubeWith empty name negated cube → IsLiteralCube name negated cube
 literal_cube empty cube name negated none with other sign = (
   λ h. elim ((with other sign).0 h) [
-      inl old ↦ absurd (no_literal other sign (subst (λ (c : Cube). HasLiteral c other sign) none old))
-    | inr same ↦ same ],
+    | inl old ↦ absurd (no_literal other sign (subst (λ (c : Cube). HasLiteral c other sign) none old))
+    | inr same ↦ same
+  ],
   λ same. (with other sign).1 (inr same),
 )
 

@@ -1,6 +1,6 @@
 -- Lists as sets, item by item.
-use Rattle.std.proofs.Common.{◌≡◌, ◌⊎◌, inl, inr, ◌<◌, ◌≤◌, ◌+◌, ◌↔◌, ℕ, Bool, true, false, List, [], ◌∷◌, ◌++◌, length, take, get_or, refl, sym, ap, subst, ◌∙◌, arith}
-use Rattle.std.specs.Prelude.{Contains, IsTrue}
+use Rattle.std.proofs.Common.{◌≡◌, inl, inr, ◌<◌, ◌+◌, ℕ, List, [], ◌∷◌, ◌++◌, length, take, get_or, sym, ap, subst, ◌∙◌, arith}
+use Rattle.std.specs.Prelude.{Contains}
 use Rattle.std.proofs.lemmas.List.{get_or_default, take_more}
 use Rattle.std.proofs.lemmas.List.Elements.{Contains-append_cases, Contains-append_left, Contains-append_right, Contains-push, Contains-push_cases}
 use Rattle.omega_ltl_shapes.specs.Terms.{HasItems, HasItemsOfBoth}
@@ -14,8 +14,9 @@ has_items_none more d h = absurd (omega (arith, h.1))
 
 pub has_items_more : (items more : List ℕ) (item : ℕ) → HasItems items more → Contains more item → HasItems (items ++ item ∷ []) more
 has_items_more items more item has there d h = elim (Contains-push_cases items item d h) [
-    inl before ↦ has d before
-  | inr same ↦ subst (Contains more) same there ]
+  | inl before ↦ has d before
+  | inr same ↦ subst (Contains more) same there
+]
 
 pub of_both_none : (one : List ℕ) → HasItemsOfBoth one [] one
 of_both_none one d = (λ h. inl h, λ h. elim h [ inl there ↦ there | inr none ↦ absurd (omega (arith, none.1)) ])
@@ -34,21 +35,25 @@ pub both_pushed : (items : List ℕ) (item : ℕ) → HasItemsOfBoth items (item
 both_pushed items item d = (
   λ h. elim (Contains-push_cases items item d h) [ inl old ↦ inl old | inr same ↦ inr (0, omega arith, same) ],
   λ h. elim h [
-      inl old ↦ Contains-append_left items (item ∷ []) d old
-    | inr one ↦ subst (Contains (items ++ item ∷ [])) (only_one item d one) (Contains-push items item) ],
+    | inl old ↦ Contains-append_left items (item ∷ []) d old
+    | inr one ↦ subst (Contains (items ++ item ∷ [])) (only_one item d one) (Contains-push items item)
+  ],
 )
 
 -- numbers are added in two steps
 pub of_both_more : (one other more both all : List ℕ) → HasItemsOfBoth one other both → HasItemsOfBoth both more all → HasItemsOfBoth one (other ++ more) all
 of_both_more one other more both all a b d = (
   λ h. elim ((b d).0 h) [
-      inl there ↦ elim ((a d).0 there) [ inl left ↦ inl left | inr right ↦ inr (Contains-append_left other more d right) ]
-    | inr added ↦ inr (Contains-append_right other more d added) ],
+    | inl there ↦ elim ((a d).0 there) [ inl left ↦ inl left | inr right ↦ inr (Contains-append_left other more d right) ]
+    | inr added ↦ inr (Contains-append_right other more d added)
+  ],
   λ h. elim h [
-      inl left ↦ (b d).1 (inl ((a d).1 (inl left)))
+    | inl left ↦ (b d).1 (inl ((a d).1 (inl left)))
     | inr right ↦ elim (Contains-append_cases other more d right) [
-        inl before ↦ (b d).1 (inl ((a d).1 (inr before)))
-      | inr added ↦ (b d).1 (inr added) ] ],
+      | inl before ↦ (b d).1 (inl ((a d).1 (inr before)))
+      | inr added ↦ (b d).1 (inr added)
+    ]
+  ],
 )
 
 -- the front of a list with the item that was read behind it

@@ -1,20 +1,20 @@
 -- What the shape of a demand shows is what the demand says.
-use Rattle.std.proofs.Common.{◌≡◌, ◌⊎◌, inl, inr, ◌<◌, ◌≤◌, ◌+◌, ◌*◌, ◌/◌, ℕ, Bool, true, false, not, List, length, refl, sym, ap, subst, ◌∙◌, arith}
+use Rattle.std.proofs.Common.{inl, inr, ◌+◌, ◌/◌, ℕ, Bool, true, false, not, sym, subst, arith}
 use Rattle.std.specs.Prelude.{IsTrue}
-use Rattle.std.proofs.lemmas.Bool.{false≢true, true≢false}
+use Rattle.std.proofs.lemmas.Bool.{false≢true}
 use Rattle.omega_text.specs.NamedWords.{NamedWord}
 use Rattle.omega_ltl_formula.specs.Formula.{FormulaTree}
 use Rattle.omega_ltl_formula.specs.Meaning.{Holds}
-use Rattle.omega_ltl_formula.specs.Table.{FormulaTable, IsTable, NodesAreOverNodes, node_at, tree_at, tree_over}
+use Rattle.omega_ltl_formula.specs.Table.{FormulaTable, NodesAreOverNodes, node_at, tree_at, tree_over}
 use Rattle.omega_ltl_formula.specs.declared.node.FormulaNode.{FormulaNode}
 use Rattle.omega_ltl_formula.specs.declared.node.FormulaNode.TheVariants as node
 use Rattle.omega_ltl_formula.specs.declared.operators.BinaryOperator.{BinaryOperator}
 use Rattle.omega_ltl_formula.specs.declared.operators.BinaryOperator.TheVariants.{And, Iff, Implies, Or, Release, StrongRelease, Until, WeakUntil, Xor}
 use Rattle.omega_ltl_formula.specs.declared.operators.UnaryOperator.{UnaryOperator}
 use Rattle.omega_ltl_formula.specs.declared.operators.UnaryOperator.TheVariants as unary
-use Rattle.omega_ltl_shapes.specs.Demands.{IsMet, ShowingMeets, Shows, Signed, seen_of}
+use Rattle.omega_ltl_shapes.specs.Demands.{IsMet, Shows, Signed, seen_of}
 use Rattle.omega_ltl_shapes.specs.Laws.{DemandsAreShown}
-use Rattle.omega_ltl_shapes.specs.Shapes.{binary_shape, constant_shape, demand, is_negated, node_shape, shape_of, unary_shape}
+use Rattle.omega_ltl_shapes.specs.Shapes.{demand, is_negated, node_shape}
 use Rattle.omega_ltl_shapes.proofs.Numbering.{demand_node, demand_sign, first_or_later}
 
 not_both : (b : Bool) → IsTrue (not b) → IsTrue b → ⊥
@@ -78,33 +78,48 @@ module _ (table : FormulaTable) (word : NamedWord) where
   binary_shown i Xor a b true (inr s) = λ h. elim h [ inl x ↦ met a true i s.0 x.0 | inr y ↦ met b true i s.1 y.1 ]
   binary_shown i Until a b false s = (s.0, s.1, met b false s.0 s.2, λ j from before. met a false j (s.3 j from before))
   binary_shown i Until a b true s = λ h. elim (s h.0 h.1) [
-      inl kept ↦ met b true h.0 (kept h.0 h.1 (omega arith)) h.2
+    | inl kept ↦ met b true h.0 (kept h.0 h.1 (omega arith)) h.2
     | inr come ↦ elim (first_or_later come.0 h.0 come.2) [
-        inl same ↦ met b true h.0 (subst (λ (j : ℕ). IsMet table word (demand b true) j) same come.3.1) h.2
-      | inr before ↦ met a true come.0 come.3.0 (h.3 come.0 come.1 (omega arith)) ] ]
+      | inl same ↦ met b true h.0 (subst (λ (j : ℕ). IsMet table word (demand b true) j) same come.3.1) h.2
+      | inr before ↦ met a true come.0 come.3.0 (h.3 come.0 come.1 (omega arith))
+    ]
+  ]
   binary_shown i WeakUntil a b false s = λ k after. elim (s k after) [
-      inl kept ↦ inl (λ j from upto. met a false j (kept j from upto))
-    | inr come ↦ inr (come.0, come.1, come.2, met b false come.0 come.3, λ m from before. met a false m (come.4 m from before)) ]
+    | inl kept ↦ inl (λ j from upto. met a false j (kept j from upto))
+    | inr come ↦ inr (come.0, come.1, come.2, met b false come.0 come.3, λ m from before. met a false m (come.4 m from before))
+  ]
   binary_shown i WeakUntil a b true s = λ h. elim (h s.0 s.1) [
-      inl kept ↦ met a true s.0 s.2.0 (kept s.0 s.1 (omega arith))
+    | inl kept ↦ met a true s.0 s.2.0 (kept s.0 s.1 (omega arith))
     | inr come ↦ elim (first_or_later come.0 s.0 come.2) [
-        inl same ↦ met b true s.0 s.2.1 (subst (At b) same come.3)
-      | inr before ↦ met b true come.0 (s.3 come.0 come.1 (omega arith)) come.3 ] ]
+      | inl same ↦ met b true s.0 s.2.1 (subst (At b) same come.3)
+      | inr before ↦ met b true come.0 (s.3 come.0 come.1 (omega arith)) come.3
+    ]
+  ]
   binary_shown i Release a b false s = λ k after. elim (s k after) [
-      inl kept ↦ inl (met b false k (kept k after (omega arith)))
+    | inl kept ↦ inl (met b false k (kept k after (omega arith)))
     | inr come ↦ elim (first_or_later come.0 k come.2) [
-        inl same ↦ inl (subst (At b) same (met b false come.0 come.3.1))
-      | inr before ↦ inr (come.0, come.1, omega arith, met a false come.0 come.3.0) ] ]
+      | inl same ↦ inl (subst (At b) same (met b false come.0 come.3.1))
+      | inr before ↦ inr (come.0, come.1, omega arith, met a false come.0 come.3.0)
+    ]
+  ]
   binary_shown i Release a b true s = λ h. elim (h s.0 s.1) [
-      inl holds ↦ met b true s.0 s.2 holds
-    | inr come ↦ met a true come.0 (s.3 come.0 come.1 come.2) come.3 ]
-  binary_shown i StrongRelease a b false s = (s.0, s.1, met a false s.0 s.2.0, λ j from upto.
-      elim (first_or_later j s.0 upto) [
-        inl same ↦ subst (At b) (sym same) (met b false s.0 s.2.1)
-      | inr before ↦ met b false j (s.3 j from (omega arith)) ])
+    | inl holds ↦ met b true s.0 s.2 holds
+    | inr come ↦ met a true come.0 (s.3 come.0 come.1 come.2) come.3
+  ]
+  binary_shown i StrongRelease a b false s = (
+    s.0,
+    s.1,
+    met a false s.0 s.2.0,
+    λ j from upto.
+        elim (first_or_later j s.0 upto) [
+          | inl same ↦ subst (At b) (sym same) (met b false s.0 s.2.1)
+          | inr before ↦ met b false j (s.3 j from (omega arith))
+        ],
+  )
   binary_shown i StrongRelease a b true s = λ h. elim (s h.0 h.1) [
-      inl kept ↦ met a true h.0 (kept h.0 h.1 (omega arith)) h.2
-    | inr come ↦ met b true come.0 come.3 (h.3 come.0 come.1 come.2) ]
+    | inl kept ↦ met a true h.0 (kept h.0 h.1 (omega arith)) h.2
+    | inr come ↦ met b true come.0 come.3 (h.3 come.0 come.1 come.2)
+  ]
 
   pub node_shown : (i : ℕ) (n : FormulaNode) (negated : Bool) → Shown i negated n
   node_shown i (node.Constant value) negated s = constant_shown i value negated s

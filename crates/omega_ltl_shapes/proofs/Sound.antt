@@ -1,16 +1,15 @@
 -- What a trace covers is met.
-use Rattle.std.proofs.Common.{◌≡◌, ◌⊎◌, inl, inr, ◌<◌, ◌≤◌, ◌+◌, ◌-◌, ◌*◌, zero, suc, ℕ, Bool, true, false, List, length, refl, sym, ap, subst, ◌∙◌, arith, true≢false}
+use Rattle.std.proofs.Common.{◌≡◌, ◌⊎◌, inl, inr, ◌<◌, ◌≤◌, ◌+◌, ◌-◌, zero, suc, ℕ, Bool, true, false, List, length, refl, sym, ap, subst, ◌∙◌, arith, true≢false}
 use Rattle.std.specs.Prelude.{Contains, IsTrue}
 use Rattle.std.proofs.lemmas.Bool.{cases_lt, false≢true}
-use Rattle.omega_ltl_formula.specs.Table.{NodesAreOverNodes, NumberedFormula, IsFormula}
-use Rattle.omega_ltl_shapes.specs.Combinations.{Says, SpeaksBelow}
+use Rattle.omega_ltl_formula.specs.Table.{NodesAreOverNodes}
+use Rattle.omega_ltl_shapes.specs.Combinations.{SpeaksBelow}
 use Rattle.omega_ltl_shapes.specs.Covers.{Covers, CoversCombination, HasLiteral, Step, is_set}
 use Rattle.omega_ltl_shapes.specs.Demands.{Comes, IsLiteralTrue, IsMet, SaysAt, Shows, Stays, seen_of}
-use Rattle.omega_ltl_shapes.specs.Graphs.{IsPostponed, IsSetOf, IsStrong, IsTrace, Trace}
+use Rattle.omega_ltl_shapes.specs.Graphs.{IsSetOf, IsStrong, IsTrace, Trace}
 use Rattle.omega_ltl_shapes.specs.Laws.{TracesAreSound}
 use Rattle.omega_ltl_shapes.specs.Shapes.{AreGrounded, IsShapeBelow, goal_of, is_strong, shape_at}
 use Rattle.omega_ltl_shapes.specs.declared.combination.Combination.{Combination}
-use Rattle.omega_ltl_shapes.specs.declared.combination.Combination.TheVariants.{Constant}
 use Rattle.omega_ltl_shapes.specs.declared.shape.Shape.{Shape}
 use Rattle.omega_ltl_shapes.specs.declared.shape.Shape.TheVariants.{Fix, Next, Now}
 use Rattle.omega_ltl_shapes.proofs.Combining.{says_more}
@@ -40,13 +39,16 @@ module _ (shapes : List Shape) (grounded : AreGrounded shapes) (strongs : List �
     stays_for : (n i k : ℕ) → k ≡ i + n → At d i → ((j : ℕ) → i ≤ j → j ≤ k → Keep j)
         ⊎ ((j : ℕ) × (i ≤ j) × (j ≤ k) × Goal j × ((m : ℕ) → i ≤ m → m < j → Keep m))
     stays_for zero i k e c = elim (fixed i c) [
-        inl goal ↦ inr (i, omega arith, omega arith, goal, λ m from before. absurd (omega arith))
-      | inr kept ↦ inl (λ j from upto. subst Keep (let same : i ≡ j = omega arith in same) kept.0) ]
+      | inl goal ↦ inr (i, omega arith, omega arith, goal, λ m from before. absurd (omega arith))
+      | inr kept ↦ inl (λ j from upto. subst Keep (let same : i ≡ j = omega arith in same) kept.0)
+    ]
     stays_for (suc n) i k e c = elim (fixed i c) [
-        inl goal ↦ inr (i, omega arith, omega arith, goal, λ m from before. absurd (omega arith))
+      | inl goal ↦ inr (i, omega arith, omega arith, goal, λ m from before. absurd (omega arith))
       | inr kept ↦ elim (stays_for n (i + 1) k (omega arith) (is.goes i d kept.1)) [
-          inl all ↦ inl (λ j from upto. from_first Keep i j from kept.0 (λ more. all j more upto))
-        | inr come ↦ inr (come.0, omega arith, come.2, come.3, λ m from before. from_first Keep i m from kept.0 (λ more. come.4 m more before)) ] ]
+        | inl all ↦ inl (λ j from upto. from_first Keep i j from kept.0 (λ more. all j more upto))
+        | inr come ↦ inr (come.0, omega arith, come.2, come.3, λ m from before. from_first Keep i m from kept.0 (λ more. come.4 m more before))
+      ]
+    ]
 
     stays : (i : ℕ) → At d i → Stays Goal Keep i
     stays i c = λ k after. stays_for (k - i) i k (omega arith) c
@@ -61,32 +63,37 @@ module _ (shapes : List Shape) (grounded : AreGrounded shapes) (strongs : List �
       -- at an index at which its set is not late, the goal has come
       comes_for : (n i set : ℕ) → IsSetOf strongs set d → Contains (t.states i) d → is_set (t.lates (i + n)) set ≡ false → Comes Goal Keep i
       comes_for zero i set of inside ends = elim (is.postponed i d inside strong_shape) [
-          inl goal ↦ (i, omega arith, goal_at i goal, λ j from before. absurd (omega arith))
+        | inl goal ↦ (i, omega arith, goal_at i goal, λ j from before. absurd (omega arith))
         | inr late ↦ absurd (true≢false (sym (subst (λ (s : ℕ). IsTrue (is_set (t.lates i) s)) (is.once d late.0 set late.1 of) late.2)
-            ∙ subst (λ (m : ℕ). is_set (t.lates m) set ≡ false) (let e : i + 0 ≡ i = omega arith in e) ends)) ]
+            ∙ subst (λ (m : ℕ). is_set (t.lates m) set ≡ false) (let e : i + 0 ≡ i = omega arith in e) ends))
+      ]
       comes_for (suc n) i set of inside ends = elim (is.postponed i d inside strong_shape) [
-          inl goal ↦ (i, omega arith, goal_at i goal, λ j from before. absurd (omega arith))
+        | inl goal ↦ (i, omega arith, goal_at i goal, λ j from before. absurd (omega arith))
         | inr late ↦ elim (fixed i (is.covers i d inside)) [
-            inl goal ↦ (i, omega arith, goal, λ j from before. absurd (omega arith))
+          | inl goal ↦ (i, omega arith, goal, λ j from before. absurd (omega arith))
           | inr kept ↦
               let later : Comes Goal Keep (i + 1) = comes_for n (i + 1) set of (is.kept i d late.3 strong_shape)
-                  (subst (λ (m : ℕ). is_set (t.lates m) set ≡ false) (let e : i + suc n ≡ (i + 1) + n = omega arith in e) ends) in
-              (later.0, omega arith, later.2, λ j from before. from_first Keep i j from kept.0 (λ more. later.3 j more before)) ] ]
+              (subst (λ (m : ℕ). is_set (t.lates m) set ≡ false) (let e : i + suc n ≡ (i + 1) + n = omega arith in e) ends) in
+              (later.0, omega arith, later.2, λ j from before. from_first Keep i j from kept.0 (λ more. later.3 j more before))
+        ]
+      ]
 
       -- so it comes from each state that has the demand
       comes_in : (i : ℕ) → Contains (t.states i) d → Comes Goal Keep i
       comes_in i inside = elim (is.postponed i d inside strong_shape) [
-          inl goal ↦ (i, omega arith, goal_at i goal, λ j from before. absurd (omega arith))
+        | inl goal ↦ (i, omega arith, goal_at i goal, λ j from before. absurd (omega arith))
         | inr late ↦
             let at : (j : ℕ) × (i ≤ j) × (is_set (t.lates j) late.0 ≡ false) = is.ever late.0 i late.1.below in
-            comes_for (at.0 - i) i late.0 late.1 inside (subst (λ (m : ℕ). is_set (t.lates m) late.0 ≡ false) (let e : at.0 ≡ i + (at.0 - i) = omega arith in e) at.2) ]
+            comes_for (at.0 - i) i late.0 late.1 inside (subst (λ (m : ℕ). is_set (t.lates m) late.0 ≡ false) (let e : at.0 ≡ i + (at.0 - i) = omega arith in e) at.2)
+      ]
 
       comes : (i : ℕ) → At d i → Comes Goal Keep i
       comes i c = elim (fixed i c) [
-          inl goal ↦ (i, omega arith, goal, λ j from before. absurd (omega arith))
+        | inl goal ↦ (i, omega arith, goal, λ j from before. absurd (omega arith))
         | inr kept ↦
             let later : Comes Goal Keep (i + 1) = comes_in (i + 1) (is.kept i d kept.1 strong_shape) in
-            (later.0, omega arith, later.2, λ j from before. from_first Keep i j from kept.0 (λ more. later.3 j more before)) ]
+            (later.0, omega arith, later.2, λ j from before. from_first Keep i j from kept.0 (λ more. later.3 j more before))
+      ]
 
   module _ (P : ℕ → ℕ → Type 0) (meets : (d i : ℕ) → Shows held P i (shape_at shapes d) → P d i) where
     module _ (d : ℕ) (smaller : (e i : ℕ) → e < d → At e i → P e i) where
@@ -101,8 +108,9 @@ module _ (shapes : List Shape) (grounded : AreGrounded shapes) (strongs : List �
           let come : Comes (Goal d goal keep true e) (Keep d goal keep true e) i = comes d goal keep true e refl i h in
           (come.0, come.1, says come.0 goal below.0 come.2, λ j from before. says j keep below.1 (come.3 j from before))
       shown i (Fix goal keep false) e below h = λ k after. elim (stays d goal keep false e i h k after) [
-          inl all ↦ inl (λ j from upto. says j keep below.1 (all j from upto))
-        | inr come ↦ inr (come.0, come.1, come.2, says come.0 goal below.0 come.3, λ m from before. says m keep below.1 (come.4 m from before)) ]
+        | inl all ↦ inl (λ j from upto. says j keep below.1 (all j from upto))
+        | inr come ↦ inr (come.0, come.1, come.2, says come.0 goal below.0 come.3, λ m from before. says m keep below.1 (come.4 m from before))
+      ]
 
     sound_below : (n d i : ℕ) → d < n → At d i → P d i
     sound_below zero d i under h = absurd (omega arith)
@@ -116,7 +124,8 @@ pub traces_sound : NodesAreOverNodes → TracesAreSound
 traces_sound over formula word shapes strongs t is_formula are is d i c =
     sound shapes (shapes_below formula.table shapes is_formula.table is_formula.few_names are) strongs (seen_of formula.table.names word) t is (IsMet formula.table word)
     (λ e j s. elim (cases_lt e (length shapes)) [
-        inl low ↦ demands_shown over formula.table word e j is_formula.table (omega (arith, are.count))
-            (subst (Shows (seen_of formula.table.names word) (IsMet formula.table word) j) (are.each e low) s)
-      | inr high ↦ absurd (false≢true (subst (Shows (seen_of formula.table.names word) (IsMet formula.table word) j) (shape_beyond shapes e high) s)) ])
+      | inl low ↦ demands_shown over formula.table word e j is_formula.table (omega (arith, are.count))
+          (subst (Shows (seen_of formula.table.names word) (IsMet formula.table word) j) (are.each e low) s)
+      | inr high ↦ absurd (false≢true (subst (Shows (seen_of formula.table.names word) (IsMet formula.table word) j) (shape_beyond shapes e high) s))
+    ])
     d i c

@@ -1,7 +1,7 @@
 -- What is met unfolds by its shape, and by the limited principle of omniscience each demand has truth values.
-use Rattle.std.proofs.Common.{◌≡◌, ◌⊎◌, inl, inr, ◌<◌, ◌≤◌, ◌+◌, ◌*◌, ◌/◌, ◌↔◌, ℕ, Bool, true, false, not, List, length, refl, sym, ap, subst, ◌∙◌, arith}
+use Rattle.std.proofs.Common.{◌≡◌, ◌⊎◌, inl, inr, ◌<◌, ◌≤◌, ◌+◌, ◌*◌, ◌/◌, ◌↔◌, ℕ, Bool, true, false, not, List, length, refl, sym, subst, arith}
 use Rattle.std.specs.Prelude.{IsTrue, ◌&&◌, nat_lt}
-use Rattle.std.proofs.lemmas.Bool.{and_from, and_parts, cases_lt, false≢true, lt-ltb, ltb-true}
+use Rattle.std.proofs.lemmas.Bool.{and_from, and_parts, false≢true, lt-ltb, ltb-true}
 use Rattle.omega_text.specs.NamedWords.{NamedWord}
 use Rattle.omega_text.specs.Omniscience.{LimitedPrincipleOfOmniscience}
 use Rattle.omega_ltl_formula.specs.Formula.{FormulaTree, unary as unary_tree}
@@ -17,9 +17,8 @@ use Rattle.omega_ltl_formula.specs.declared.operators.UnaryOperator.TheVariants 
 use Rattle.omega_ltl_shapes.specs.Combinations.{SpeaksBelow}
 use Rattle.omega_ltl_shapes.specs.Demands.{IsLiteralTrue, IsMet, IsTrueAt, SaysAt, Signed, Truth, Unfolds, Valuation, seen_of}
 use Rattle.omega_ltl_shapes.specs.Laws.{AreTruthsOf, TruthsFollowShapes}
-use Rattle.omega_ltl_shapes.specs.Shapes.{AreGrounded, AreShapesOf, IsShapeBelow, binary_shape, constant_shape, demand, is_negated, node_shape, shape_at, shape_of, unary_shape}
+use Rattle.omega_ltl_shapes.specs.Shapes.{AreShapesOf, IsShapeBelow, demand, is_negated, node_shape, shape_at, shape_of}
 use Rattle.omega_ltl_shapes.specs.declared.combination.Combination.{Combination}
-use Rattle.omega_ltl_shapes.specs.declared.combination.Combination.TheVariants.{Both, Cases, Constant, Either, Literal, Same}
 use Rattle.omega_ltl_shapes.specs.declared.shape.Shape.{Shape}
 use Rattle.omega_ltl_shapes.specs.declared.shape.Shape.TheVariants.{Fix, Next, Now}
 use Rattle.omega_ltl_shapes.proofs.Combining.{says_more}
@@ -35,7 +34,7 @@ not_true true h = absurd (h refl)
 not_true false h = refl
 
 module _ (omniscience : LimitedPrincipleOfOmniscience) (laws : (f g : FormulaTree) → OperatorsUnfold f g) (duals : (f g : FormulaTree) → DualsHold f g)
-  (table : FormulaTable) (word : NamedWord) (decide : (a i : ℕ) → Decided (Holds (tree_at table a) word i)) where
+    (table : FormulaTable) (word : NamedWord) (decide : (a i : ℕ) → Decided (Holds (tree_at table a) word i)) where
   -- the formula of a node, and where it holds
   abbrev tree : ℕ → FormulaTree
   tree a = tree_at table a
@@ -83,47 +82,53 @@ module _ (omniscience : LimitedPrincipleOfOmniscience) (laws : (f g : FormulaTre
       let split = ((laws (tree a) (tree a)).globally word i).0 h in
       (inr (pos a i split.0, self split.1), λ must. absurd (false≢true must))
   unary_unfolds d i unary.Globally a true self h =
-      let come = ((duals (tree a) (tree a)).globally omniscience word i).0 h in
-      (
+      let come = ((duals (tree a) (tree a)).globally omniscience word i).0 h in (
         elim (((laws (fails a) (fails a)).finally word i).0 come) [
-          inl now ↦ inl (neg a i now)
-        | inr next ↦ inr (refl, self (((duals (tree a) (tree a)).globally omniscience word (i + 1)).1 next)) ],
+          | inl now ↦ inl (neg a i now)
+          | inr next ↦ inr (refl, self (((duals (tree a) (tree a)).globally omniscience word (i + 1)).1 next))
+        ],
         λ must. (come.0, come.1, neg a come.0 come.2),
       )
 
   binary_unfolds : (d i : ℕ) (op : BinaryOperator) (a b : ℕ) (negated : Bool) → Unfolded d i negated (node.Binary op a b)
   binary_unfolds d i And a b false self h = (pos a i h.0, pos b i h.1)
   binary_unfolds d i And a b true self h = elim (decide a i) [
-      inl sure ↦ inr (neg b i (λ y. h (sure, y)))
-    | inr never ↦ inl (neg a i never) ]
+    | inl sure ↦ inr (neg b i (λ y. h (sure, y)))
+    | inr never ↦ inl (neg a i never)
+  ]
   binary_unfolds d i Or a b false self h = elim h [ inl x ↦ inl (pos a i x) | inr y ↦ inr (pos b i y) ]
   binary_unfolds d i Or a b true self h = (neg a i (λ x. h (inl x)), neg b i (λ y. h (inr y)))
   binary_unfolds d i Implies a b false self h = elim (decide a i) [ inl sure ↦ inr (pos b i (h sure)) | inr never ↦ inl (neg a i never) ]
   binary_unfolds d i Implies a b true self h = elim (decide a i) [
-      inl sure ↦ (pos a i sure, neg b i (λ y. h (λ x. y)))
-    | inr never ↦ absurd (h (λ x. absurd (never x))) ]
+    | inl sure ↦ (pos a i sure, neg b i (λ y. h (λ x. y)))
+    | inr never ↦ absurd (h (λ x. absurd (never x)))
+  ]
   binary_unfolds d i Iff a b false self h = elim (decide a i) [
-      inl sure ↦ inl (pos a i sure, pos b i (h.0 sure))
-    | inr never ↦ inr (neg a i never, neg b i (λ y. never (h.1 y))) ]
+    | inl sure ↦ inl (pos a i sure, pos b i (h.0 sure))
+    | inr never ↦ inr (neg a i never, neg b i (λ y. never (h.1 y)))
+  ]
   binary_unfolds d i Iff a b true self h = elim (decide a i) [
-      inl sure ↦ inl (pos a i sure, neg b i (λ y. h (λ x. y, λ z. sure)))
-    | inr never ↦ inr (neg a i never, elim (decide b i) [ inl y ↦ pos b i y | inr none ↦ absurd (h (λ x. absurd (never x), λ y. absurd (none y))) ]) ]
+    | inl sure ↦ inl (pos a i sure, neg b i (λ y. h (λ x. y, λ z. sure)))
+    | inr never ↦ inr (neg a i never, elim (decide b i) [ inl y ↦ pos b i y | inr none ↦ absurd (h (λ x. absurd (never x), λ y. absurd (none y))) ])
+  ]
   binary_unfolds d i Xor a b false self h = elim h [
-      inl s ↦ inl (pos a i s.0, neg b i s.1)
-    | inr s ↦ inr (neg a i s.0, pos b i s.1) ]
+    | inl s ↦ inl (pos a i s.0, neg b i s.1)
+    | inr s ↦ inr (neg a i s.0, pos b i s.1)
+  ]
   binary_unfolds d i Xor a b true self h = elim (decide a i) [
-      inl sure ↦ inl (pos a i sure, elim (decide b i) [ inl y ↦ pos b i y | inr none ↦ absurd (h (inl (sure, none))) ])
-    | inr never ↦ inr (neg a i never, neg b i (λ y. h (inr (never, y)))) ]
+    | inl sure ↦ inl (pos a i sure, elim (decide b i) [ inl y ↦ pos b i y | inr none ↦ absurd (h (inl (sure, none))) ])
+    | inr never ↦ inr (neg a i never, neg b i (λ y. h (inr (never, y))))
+  ]
   binary_unfolds d i Until a b false self h = (
     elim (((laws (tree a) (tree b)).until word i).0 h) [ inl now ↦ inl (pos b i now) | inr next ↦ inr (pos a i next.0, self next.1) ],
     λ must. (h.0, h.1, pos b h.0 h.2),
   )
   binary_unfolds d i Until a b true self h =
-      let split = ((laws (fails a) (fails b)).release omniscience word i).0 (((duals (tree a) (tree b)).until omniscience word i).0 h) in
-      (
+      let split = ((laws (fails a) (fails b)).release omniscience word i).0 (((duals (tree a) (tree b)).until omniscience word i).0 h) in (
         elim split.1 [
-          inl now ↦ inl (neg a i now, neg b i split.0)
-        | inr next ↦ inr (neg b i split.0, self (((duals (tree a) (tree b)).until omniscience word (i + 1)).1 next)) ],
+          | inl now ↦ inl (neg a i now, neg b i split.0)
+          | inr next ↦ inr (neg b i split.0, self (((duals (tree a) (tree b)).until omniscience word (i + 1)).1 next))
+        ],
         λ must. absurd (false≢true must),
       )
   binary_unfolds d i WeakUntil a b false self h = (
@@ -132,39 +137,37 @@ module _ (omniscience : LimitedPrincipleOfOmniscience) (laws : (f g : FormulaTre
   )
   binary_unfolds d i WeakUntil a b true self h =
       let come = ((duals (tree a) (tree b)).weak_until omniscience word i).0 h in
-      let split = ((laws (fails a) (fails b)).strong_release word i).0 come in
-      (
+      let split = ((laws (fails a) (fails b)).strong_release word i).0 come in (
         elim split.1 [
-          inl now ↦ inl (neg a i now, neg b i split.0)
-        | inr next ↦ inr (neg b i split.0, self (((duals (tree a) (tree b)).weak_until omniscience word (i + 1)).1 next)) ],
+          | inl now ↦ inl (neg a i now, neg b i split.0)
+          | inr next ↦ inr (neg b i split.0, self (((duals (tree a) (tree b)).weak_until omniscience word (i + 1)).1 next))
+        ],
         λ must. (come.0, come.1, (neg a come.0 come.2, neg b come.0 (come.3 come.0 come.1 (omega arith)))),
       )
   binary_unfolds d i Release a b false self h =
-      let split = ((laws (tree a) (tree b)).release omniscience word i).0 h in
-      (
+      let split = ((laws (tree a) (tree b)).release omniscience word i).0 h in (
         elim split.1 [ inl now ↦ inl (pos a i now, pos b i split.0) | inr next ↦ inr (pos b i split.0, self next) ],
         λ must. absurd (false≢true must),
       )
   binary_unfolds d i Release a b true self h =
-      let come = ((duals (tree a) (tree b)).release omniscience word i).0 h in
-      (
+      let come = ((duals (tree a) (tree b)).release omniscience word i).0 h in (
         elim (((laws (fails a) (fails b)).until word i).0 come) [
-          inl now ↦ inl (neg b i now)
-        | inr next ↦ inr (neg a i next.0, self (((duals (tree a) (tree b)).release omniscience word (i + 1)).1 next.1)) ],
+          | inl now ↦ inl (neg b i now)
+          | inr next ↦ inr (neg a i next.0, self (((duals (tree a) (tree b)).release omniscience word (i + 1)).1 next.1))
+        ],
         λ must. (come.0, come.1, neg b come.0 come.2),
       )
   binary_unfolds d i StrongRelease a b false self h =
-      let split = ((laws (tree a) (tree b)).strong_release word i).0 h in
-      (
+      let split = ((laws (tree a) (tree b)).strong_release word i).0 h in (
         elim split.1 [ inl now ↦ inl (pos a i now, pos b i split.0) | inr next ↦ inr (pos b i split.0, self next) ],
         λ must. (h.0, h.1, (pos a h.0 h.2, pos b h.0 (h.3 h.0 h.1 (omega arith)))),
       )
   binary_unfolds d i StrongRelease a b true self h =
-      let stay = ((duals (tree a) (tree b)).strong_release omniscience word i).0 h in
-      (
+      let stay = ((duals (tree a) (tree b)).strong_release omniscience word i).0 h in (
         elim (((laws (fails a) (fails b)).weak_until omniscience word i).0 stay) [
-          inl now ↦ inl (neg b i now)
-        | inr next ↦ inr (neg a i next.0, self (((duals (tree a) (tree b)).strong_release omniscience word (i + 1)).1 next.1)) ],
+          | inl now ↦ inl (neg b i now)
+          | inr next ↦ inr (neg a i next.0, self (((duals (tree a) (tree b)).strong_release omniscience word (i + 1)).1 next.1))
+        ],
         λ must. absurd (false≢true must),
       )
 
@@ -216,8 +219,8 @@ abbrev truth_by : (ℕ → ℕ → Bool) → ℕ → Truth
 truth_by test count d i = signed (is_negated d) (test (d / 2) i) && nat_lt d count
 
 module _ (over : NodesAreOverNodes) (decided : FormulasAreDecided) (laws : (f g : FormulaTree) → OperatorsUnfold f g) (duals : (f g : FormulaTree) → DualsHold f g)
-  (omniscience : LimitedPrincipleOfOmniscience) (formula : NumberedFormula) (word : NamedWord) (shapes : List Shape) (is : IsFormula formula)
-  (are : AreShapesOf formula.table.nodes shapes) where
+    (omniscience : LimitedPrincipleOfOmniscience) (formula : NumberedFormula) (word : NamedWord) (shapes : List Shape) (is : IsFormula formula)
+    (are : AreShapesOf formula.table.nodes shapes) where
   -- whether a node holds
   abbrev test : ℕ → ℕ → Bool
   test a = (decided omniscience (tree_at formula.table a) word).0
@@ -246,7 +249,7 @@ module _ (over : NodesAreOverNodes) (decided : FormulasAreDecided) (laws : (f g 
       (shapes_below formula.table shapes is.table is.few_names are d)
       (λ e j less m. (exact e j (omega arith)).0 m)
       (subst (Unfolds (seen_of formula.table.names word) (IsMet formula.table word) d i) (sym (are.each d below))
-        (met_unfolds omniscience laws duals formula.table word (λ a k. decided_by (test a k) (tested a k)) over is.table d i (omega arith) ((signs d i).1 parts.0)))
+      (met_unfolds omniscience laws duals formula.table word (λ a k. decided_by (test a k) (tested a k)) over is.table d i (omega arith) ((signs d i).1 parts.0)))
 
   pub truths : (v : Valuation shapes) × AreTruthsOf formula.table word shapes v
   truths = (
