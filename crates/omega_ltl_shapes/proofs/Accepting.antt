@@ -1,9 +1,9 @@
 -- Along good terms no set is late for ever.
-use Rattle.std.proofs.Common.{◌≡◌, ◌⊎◌, inl, inr, ◌<◌, ◌≤◌, ◌+◌, ℕ, Bool, true, false, List, refl, sym, subst, ◌∙◌, arith}
+use Rattle.std.proofs.Common.{◌≡◌, ◌≤◌, ℕ, Bool, true, false, List, refl, arith}
 use Rattle.std.specs.Prelude.{IsTrue, slice_index}
 use Rattle.omega_ltl_shapes.specs.Covers.{is_set}
 use Rattle.omega_ltl_shapes.specs.Demands.{IsTrueAt, SaysAt, Unfolds, Valuation}
-use Rattle.omega_ltl_shapes.specs.Graphs.{IsGood, IsStrong}
+use Rattle.omega_ltl_shapes.specs.Graphs.{IsGood}
 use Rattle.omega_ltl_shapes.specs.Laws.{GoodTermsAccept}
 use Rattle.omega_ltl_shapes.specs.Shapes.{goal_of, is_strong, shape_at}
 use Rattle.omega_ltl_shapes.specs.declared.shape.Shape.{Shape}

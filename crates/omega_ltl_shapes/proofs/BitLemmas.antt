@@ -1,6 +1,6 @@
 -- Words as sets of the numbers of their bits.
-use Rattle.std.proofs.Common.{◌≡◌, ◌⊎◌, inl, inr, ◌<◌, ◌≤◌, ◌+◌, ◌*◌, ◌/◌, ◌%◌, ◌^◌, ◌↔◌, ℕ, zero, suc, Bool, true, false, not, max, min, refl, sym, ap, subst, ◌∙◌, arith, eqb, bit_and}
-use Rattle.std.specs.Prelude.{IsTrue, bit_or, ◌||◌}
+use Rattle.std.proofs.Common.{◌≡◌, ◌⊎◌, inl, inr, ◌<◌, ◌≤◌, ◌*◌, ◌/◌, ◌%◌, ◌^◌, ◌↔◌, ℕ, false, not, max, min, sym, ap, subst, ◌∙◌, arith, eqb, bit_and}
+use Rattle.std.specs.Prelude.{IsTrue, bit_or}
 use Rattle.std.specs.Int.{bit_at, trailing_zeros, w64}
 use Rattle.std.proofs.lemmas.Bool.{cases_eq, eq-eqb, eqb-true, false≢true, ne_eqb, not_from_false}
 use Rattle.std.proofs.lemmas.Nat.{and_le_l}

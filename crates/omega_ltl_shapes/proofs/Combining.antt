@@ -1,6 +1,6 @@
 -- Combinations say more where their parts do, and their truth values are what they say.
-use Rattle.std.proofs.Common.{◌≡◌, ◌⊎◌, inl, inr, ◌<◌, ℕ, Bool, true, false, refl, arith}
-use Rattle.std.specs.Prelude.{IsTrue, ◌&&◌, ◌||◌}
+use Rattle.std.proofs.Common.{◌≡◌, ◌⊎◌, inl, inr, ◌<◌, ℕ, Bool, true, false, refl}
+use Rattle.std.specs.Prelude.{IsTrue, ◌&&◌}
 use Rattle.std.proofs.lemmas.Bool.{and_from, and_parts, or_cases, or_left, or_right}
 use Rattle.omega_ltl_shapes.specs.Combinations.{Says, SpeaksBelow, combined}
 use Rattle.omega_ltl_shapes.specs.declared.combination.Combination.{Combination}

@@ -1,8 +1,6 @@
 -- What is covered is covered by its shape, and by more literals and more demands on the next index.
-use Rattle.std.proofs.Common.{◌≡◌, ◌⊎◌, inl, inr, ◌<◌, ◌≤◌, ◌+◌, zero, suc, ℕ, Bool, true, false, List, refl, arith}
-use Rattle.std.specs.Prelude.{Contains}
-use Rattle.omega_ltl_shapes.specs.Combinations.{Says}
-use Rattle.omega_ltl_shapes.specs.Covers.{Covers, CoversAll, CoversCombination, CoversWithin, HasLiteral, Step}
+use Rattle.std.proofs.Common.{inl, inr, ◌<◌, zero, suc, ℕ, List, arith}
+use Rattle.omega_ltl_shapes.specs.Covers.{Covers, CoversCombination, CoversWithin, HasLiteral, Step}
 use Rattle.omega_ltl_shapes.specs.Shapes.{AreGrounded, IsShapeBelow, shape_at}
 use Rattle.omega_ltl_shapes.specs.Terms.{HasItems, HasLiterals}
 use Rattle.omega_ltl_shapes.specs.declared.combination.Combination.{Combination}

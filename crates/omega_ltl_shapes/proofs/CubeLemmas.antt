@@ -1,8 +1,7 @@
 -- Cubes by the bits of their words.
-use Rattle.std.proofs.Common.{◌≡◌, ◌⊎◌, inl, inr, ◌<◌, ◌↔◌, ℕ, Bool, true, false, refl, sym, ap, subst, ◌∙◌, arith}
-use Rattle.std.specs.Prelude.{IsTrue}
+use Rattle.std.proofs.Common.{◌≡◌, inl, inr, ℕ, Bool, true, false, refl, sym, subst, ◌∙◌}
 use Rattle.std.proofs.lemmas.Bool.{false≢true, true≢false}
-use Rattle.omega_ltl_shapes.specs.Covers.{HasLiteral, is_set}
+use Rattle.omega_ltl_shapes.specs.Covers.{HasLiteral}
 use Rattle.omega_ltl_shapes.specs.Terms.{AreContradictory, HasBits, HasBitsOfBoth, HasLiterals, HasOneMore, HaveCommonBit, IsCubeOfBoth, IsCubeWith, IsLiteralCube, no_literals}
 use Rattle.omega_ltl_shapes.specs.declared.cube.Cube.{Cube}
 use Rattle.omega_ltl_shapes.proofs.BitLemmas.{none_in_zero}

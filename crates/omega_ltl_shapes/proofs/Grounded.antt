@@ -1,6 +1,5 @@
 -- Shapes of a formula speak of smaller demands.
-use Rattle.std.proofs.Common.{◌≡◌, ◌⊎◌, inl, inr, ◌<◌, ◌≤◌, ◌+◌, ◌*◌, ◌/◌, ℕ, Bool, true, false, not, List, length, refl, sym, ap, subst, ◌∙◌, arith}
-use Rattle.std.specs.Prelude.{slice_index_or}
+use Rattle.std.proofs.Common.{◌≡◌, inl, inr, ◌<◌, ◌≤◌, ◌*◌, ◌/◌, ℕ, Bool, true, false, not, List, length, sym, subst, arith}
 use Rattle.std.proofs.lemmas.Bool.{cases_lt}
 use Rattle.std.proofs.lemmas.List.{get_or_past}
 use Rattle.omega_ltl_formula.specs.Table.{FormulaTable, IsPlaced, IsTable, node_at}
@@ -10,7 +9,7 @@ use Rattle.omega_ltl_formula.specs.declared.operators.BinaryOperator.{BinaryOper
 use Rattle.omega_ltl_formula.specs.declared.operators.BinaryOperator.TheVariants.{And, Iff, Implies, Or, Release, StrongRelease, Until, WeakUntil, Xor}
 use Rattle.omega_ltl_formula.specs.declared.operators.UnaryOperator.{UnaryOperator}
 use Rattle.omega_ltl_formula.specs.declared.operators.UnaryOperator.TheVariants as unary
-use Rattle.omega_ltl_shapes.specs.Shapes.{AreGrounded, AreShapesOf, IsShapeBelow, binary_shape, constant_shape, demand, is_negated, node_shape, shape_at, shape_of, unary_shape}
+use Rattle.omega_ltl_shapes.specs.Shapes.{AreGrounded, AreShapesOf, IsShapeBelow, binary_shape, constant_shape, is_negated, node_shape, shape_at, unary_shape}
 use Rattle.omega_ltl_shapes.specs.declared.combination.Combination.TheVariants.{Constant}
 use Rattle.omega_ltl_shapes.specs.declared.shape.Shape.{Shape}
 use Rattle.omega_ltl_shapes.specs.declared.shape.Shape.TheVariants.{Now}

@@ -1,20 +1,20 @@
 -- What the shape of a demand shows is what the demand says.
-use Rattle.std.proofs.Common.{◌≡◌, ◌⊎◌, inl, inr, ◌<◌, ◌≤◌, ◌+◌, ◌*◌, ◌/◌, ℕ, Bool, true, false, not, List, length, refl, sym, ap, subst, ◌∙◌, arith}
+use Rattle.std.proofs.Common.{inl, inr, ◌+◌, ◌/◌, ℕ, Bool, true, false, not, sym, subst, arith}
 use Rattle.std.specs.Prelude.{IsTrue}
-use Rattle.std.proofs.lemmas.Bool.{false≢true, true≢false}
+use Rattle.std.proofs.lemmas.Bool.{false≢true}
 use Rattle.omega_text.specs.NamedWords.{NamedWord}
 use Rattle.omega_ltl_formula.specs.Formula.{FormulaTree}
 use Rattle.omega_ltl_formula.specs.Meaning.{Holds}
-use Rattle.omega_ltl_formula.specs.Table.{FormulaTable, IsTable, NodesAreOverNodes, node_at, tree_at, tree_over}
+use Rattle.omega_ltl_formula.specs.Table.{FormulaTable, NodesAreOverNodes, node_at, tree_at, tree_over}
 use Rattle.omega_ltl_formula.specs.declared.node.FormulaNode.{FormulaNode}
 use Rattle.omega_ltl_formula.specs.declared.node.FormulaNode.TheVariants as node
 use Rattle.omega_ltl_formula.specs.declared.operators.BinaryOperator.{BinaryOperator}
 use Rattle.omega_ltl_formula.specs.declared.operators.BinaryOperator.TheVariants.{And, Iff, Implies, Or, Release, StrongRelease, Until, WeakUntil, Xor}
 use Rattle.omega_ltl_formula.specs.declared.operators.UnaryOperator.{UnaryOperator}
 use Rattle.omega_ltl_formula.specs.declared.operators.UnaryOperator.TheVariants as unary
-use Rattle.omega_ltl_shapes.specs.Demands.{IsMet, ShowingMeets, Shows, Signed, seen_of}
+use Rattle.omega_ltl_shapes.specs.Demands.{IsMet, Shows, Signed, seen_of}
 use Rattle.omega_ltl_shapes.specs.Laws.{DemandsAreShown}
-use Rattle.omega_ltl_shapes.specs.Shapes.{binary_shape, constant_shape, demand, is_negated, node_shape, shape_of, unary_shape}
+use Rattle.omega_ltl_shapes.specs.Shapes.{demand, is_negated, node_shape}
 use Rattle.omega_ltl_shapes.proofs.Numbering.{demand_node, demand_sign, first_or_later}
 
 not_both : (b : Bool) → IsTrue (not b) → IsTrue b → ⊥

@@ -1,16 +1,15 @@
 -- What a trace covers is met.
-use Rattle.std.proofs.Common.{◌≡◌, ◌⊎◌, inl, inr, ◌<◌, ◌≤◌, ◌+◌, ◌-◌, ◌*◌, zero, suc, ℕ, Bool, true, false, List, length, refl, sym, ap, subst, ◌∙◌, arith, true≢false}
+use Rattle.std.proofs.Common.{◌≡◌, ◌⊎◌, inl, inr, ◌<◌, ◌≤◌, ◌+◌, ◌-◌, zero, suc, ℕ, Bool, true, false, List, length, refl, sym, ap, subst, ◌∙◌, arith, true≢false}
 use Rattle.std.specs.Prelude.{Contains, IsTrue}
 use Rattle.std.proofs.lemmas.Bool.{cases_lt, false≢true}
-use Rattle.omega_ltl_formula.specs.Table.{NodesAreOverNodes, NumberedFormula, IsFormula}
-use Rattle.omega_ltl_shapes.specs.Combinations.{Says, SpeaksBelow}
+use Rattle.omega_ltl_formula.specs.Table.{NodesAreOverNodes}
+use Rattle.omega_ltl_shapes.specs.Combinations.{SpeaksBelow}
 use Rattle.omega_ltl_shapes.specs.Covers.{Covers, CoversCombination, HasLiteral, Step, is_set}
 use Rattle.omega_ltl_shapes.specs.Demands.{Comes, IsLiteralTrue, IsMet, SaysAt, Shows, Stays, seen_of}
-use Rattle.omega_ltl_shapes.specs.Graphs.{IsPostponed, IsSetOf, IsStrong, IsTrace, Trace}
+use Rattle.omega_ltl_shapes.specs.Graphs.{IsSetOf, IsStrong, IsTrace, Trace}
 use Rattle.omega_ltl_shapes.specs.Laws.{TracesAreSound}
 use Rattle.omega_ltl_shapes.specs.Shapes.{AreGrounded, IsShapeBelow, goal_of, is_strong, shape_at}
 use Rattle.omega_ltl_shapes.specs.declared.combination.Combination.{Combination}
-use Rattle.omega_ltl_shapes.specs.declared.combination.Combination.TheVariants.{Constant}
 use Rattle.omega_ltl_shapes.specs.declared.shape.Shape.{Shape}
 use Rattle.omega_ltl_shapes.specs.declared.shape.Shape.TheVariants.{Fix, Next, Now}
 use Rattle.omega_ltl_shapes.proofs.Combining.{says_more}

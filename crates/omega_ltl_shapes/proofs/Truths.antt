@@ -1,7 +1,7 @@
 -- What is met unfolds by its shape, and by the limited principle of omniscience each demand has truth values.
-use Rattle.std.proofs.Common.{◌≡◌, ◌⊎◌, inl, inr, ◌<◌, ◌≤◌, ◌+◌, ◌*◌, ◌/◌, ◌↔◌, ℕ, Bool, true, false, not, List, length, refl, sym, ap, subst, ◌∙◌, arith}
+use Rattle.std.proofs.Common.{◌≡◌, ◌⊎◌, inl, inr, ◌<◌, ◌≤◌, ◌+◌, ◌*◌, ◌/◌, ◌↔◌, ℕ, Bool, true, false, not, List, length, refl, sym, subst, arith}
 use Rattle.std.specs.Prelude.{IsTrue, ◌&&◌, nat_lt}
-use Rattle.std.proofs.lemmas.Bool.{and_from, and_parts, cases_lt, false≢true, lt-ltb, ltb-true}
+use Rattle.std.proofs.lemmas.Bool.{and_from, and_parts, false≢true, lt-ltb, ltb-true}
 use Rattle.omega_text.specs.NamedWords.{NamedWord}
 use Rattle.omega_text.specs.Omniscience.{LimitedPrincipleOfOmniscience}
 use Rattle.omega_ltl_formula.specs.Formula.{FormulaTree, unary as unary_tree}
@@ -17,9 +17,8 @@ use Rattle.omega_ltl_formula.specs.declared.operators.UnaryOperator.TheVariants 
 use Rattle.omega_ltl_shapes.specs.Combinations.{SpeaksBelow}
 use Rattle.omega_ltl_shapes.specs.Demands.{IsLiteralTrue, IsMet, IsTrueAt, SaysAt, Signed, Truth, Unfolds, Valuation, seen_of}
 use Rattle.omega_ltl_shapes.specs.Laws.{AreTruthsOf, TruthsFollowShapes}
-use Rattle.omega_ltl_shapes.specs.Shapes.{AreGrounded, AreShapesOf, IsShapeBelow, binary_shape, constant_shape, demand, is_negated, node_shape, shape_at, shape_of, unary_shape}
+use Rattle.omega_ltl_shapes.specs.Shapes.{AreShapesOf, IsShapeBelow, demand, is_negated, node_shape, shape_at, shape_of}
 use Rattle.omega_ltl_shapes.specs.declared.combination.Combination.{Combination}
-use Rattle.omega_ltl_shapes.specs.declared.combination.Combination.TheVariants.{Both, Cases, Constant, Either, Literal, Same}
 use Rattle.omega_ltl_shapes.specs.declared.shape.Shape.{Shape}
 use Rattle.omega_ltl_shapes.specs.declared.shape.Shape.TheVariants.{Fix, Next, Now}
 use Rattle.omega_ltl_shapes.proofs.Combining.{says_more}

@@ -1,5 +1,5 @@
 -- What a term covers: what its literals say of now, and its demands of the next index.
-use Rattle.std.specs.Prelude.{◌≡◌, ◌⊎◌, ℕ, suc, zero, ◌+◌, ◌==◌, Bool, true, false, IsTrue, List, Contains}
+use Rattle.std.specs.Prelude.{◌⊎◌, ℕ, suc, zero, ◌==◌, Bool, true, false, IsTrue, List, Contains}
 use Rattle.std.specs.Int.{bit_at}
 use Rattle.omega_ltl_shapes.specs.Combinations.{Says}
 use Rattle.omega_ltl_shapes.specs.Shapes.{shape_at}

@@ -1,10 +1,10 @@
 -- When demands are met, what their shapes show, and how they unfold.
-use Rattle.std.specs.Prelude.{◌≡◌, ◌⊎◌, ◌<◌, ◌≤◌, ◌+◌, ◌*◌, ◌/◌, ℕ, Bool, true, false, not, IsTrue, List, length, Contains}
+use Rattle.std.specs.Prelude.{◌⊎◌, ◌<◌, ◌≤◌, ◌+◌, ◌/◌, ℕ, Bool, true, false, IsTrue, List, Contains}
 use Rattle.omega_text.specs.NamedWords.{NamedWord}
 use Rattle.omega_ltl_formula.specs.Meaning.{Holds}
 use Rattle.omega_ltl_formula.specs.Table.{FormulaTable, name_at, tree_at}
 use Rattle.omega_ltl_shapes.specs.Combinations.{Says, literal_value}
-use Rattle.omega_ltl_shapes.specs.Shapes.{goal_of, is_negated, is_strong, shape_at, shape_of}
+use Rattle.omega_ltl_shapes.specs.Shapes.{is_negated, shape_at, shape_of}
 use Rattle.omega_ltl_shapes.specs.declared.combination.Combination.{Combination}
 use Rattle.omega_ltl_shapes.specs.declared.shape.Shape.{Shape}
 use Rattle.omega_ltl_shapes.specs.declared.shape.Shape.TheVariants.{Fix, Next, Now}

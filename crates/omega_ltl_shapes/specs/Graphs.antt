@@ -1,7 +1,7 @@
 -- Graphs whose states are sets of demands: which edges are right, and when they are enough.
-use Rattle.std.specs.Prelude.{◌≡◌, ◌⊎◌, ◌<◌, ◌≤◌, ◌+◌, ℕ, Bool, true, false, IsTrue, List, length, slice_index}
+use Rattle.std.specs.Prelude.{◌≡◌, ◌⊎◌, ◌<◌, ◌≤◌, ◌+◌, ℕ, Bool, false, IsTrue, List, length, slice_index}
 use Rattle.std.specs.Prelude.{Contains}
-use Rattle.omega_ltl_shapes.specs.Covers.{Covers, CoversAll, CoversCombination, HasLiteral, is_set}
+use Rattle.omega_ltl_shapes.specs.Covers.{CoversAll, CoversCombination, HasLiteral, is_set}
 use Rattle.omega_ltl_shapes.specs.Demands.{AreTrue, IsLiteralTrue, IsTrueAt, SaysAt, Valuation}
 use Rattle.omega_ltl_shapes.specs.Shapes.{goal_of, is_strong, shape_at}
 use Rattle.omega_ltl_shapes.specs.declared.cube.Cube.{Cube}

@@ -1,5 +1,5 @@
 -- Laws of demands, and of the runs that meet them.
-use Rattle.std.specs.Prelude.{◌≡◌, ◌↔◌, ◌<◌, ◌≤◌, ◌*◌, ℕ, Bool, false, IsTrue, List, length}
+use Rattle.std.specs.Prelude.{◌≡◌, ◌↔◌, ◌<◌, ◌≤◌, ◌*◌, ℕ, false, IsTrue, List, length}
 use Rattle.omega_text.specs.NamedWords.{NamedWord}
 use Rattle.omega_text.specs.Omniscience.{LimitedPrincipleOfOmniscience}
 use Rattle.omega_ltl_formula.specs.Table.{FormulaTable, IsFormula, IsTable, NumberedFormula}

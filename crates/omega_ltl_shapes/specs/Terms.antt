@@ -1,5 +1,5 @@
 -- Terms: one within another, and two together.
-use Rattle.std.specs.Prelude.{◌≡◌, ◌↔◌, ◌⊎◌, ◌<◌, ℕ, Bool, true, false, IsTrue, List, [], Contains}
+use Rattle.std.specs.Prelude.{◌≡◌, ◌↔◌, ◌⊎◌, ℕ, Bool, true, false, IsTrue, List, Contains}
 use Rattle.omega_ltl_shapes.specs.Covers.{HasLiteral, is_set}
 use Rattle.omega_ltl_shapes.specs.declared.cube.Cube.{Cube}
 use Rattle.omega_ltl_shapes.specs.declared.term.Term.{Term}

@@ -3,7 +3,8 @@
 //! A *demand* says of a node of a formula that it holds, or that it does not. Its [Shape] says what it comes to by
 //! demands of smaller nodes. A [Term] is what an edge of an automaton fixes: literals, demands on the next index, and
 //! demands whose goal is postponed. The laws say that runs of such edges show what their words satisfy
-//! ([traces_are_sound]), and that a word that satisfies a formula has such a run ([good_traces_come]).
+//! ([traces_are_sound]), and that runs along edges that fit what is true postpone no goal for ever
+//! ([good_terms_accept]).
 #![tactic(auto)]
 
 mod bits;

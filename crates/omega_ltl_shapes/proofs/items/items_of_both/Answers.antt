@@ -1,5 +1,5 @@
 -- one number more
-use Rattle.std.proofs.Common.{◌≡◌, ◌<◌, ℕ, List, [], ◌∷◌, length, get_or, take, subst, sym, arith}
+use Rattle.std.proofs.Common.{◌<◌, ℕ, List, [], ◌∷◌, length, get_or, take, subst, sym, arith}
 use Rattle.std.proofs.lemmas.List.{take_all}
 use Rattle.omega_ltl_shapes.specs.Terms.{HasItemsOfBoth}
 use Rattle.omega_ltl_shapes.proofs.ItemLemmas.{get_or_same, of_both_more, of_both_none, take_read}

@@ -1,5 +1,5 @@
 -- the number is there, or it is pushed
-use Rattle.std.proofs.Common.{◌≡◌, ℕ, List, [], ◌∷◌, true, subst, sym}
+use Rattle.std.proofs.Common.{ℕ, List, [], ◌∷◌, subst, sym}
 use Rattle.std.specs.Prelude.{Contains}
 use Rattle.omega_ltl_shapes.specs.Terms.{HasItemsOfBoth}
 use Rattle.omega_ltl_shapes.proofs.ItemLemmas.{both_pushed, both_there}

@@ -1,4 +1,3 @@
-use Rattle.std.proofs.Common.{◌∙◌, sym}
 use Rattle.std.proofs.lemmas.Bool.{both_ways}
 use Rattle.omega_ltl_shapes.proofs.CubeLemmas.{bits_literals, literals_negative, literals_positive}
 use Rattle.omega_ltl_shapes.proofs.cube.Cube.is_within.Goals as goal
