@@ -16,7 +16,7 @@ use Rattle.omega_lang_intersection.specs.declared.answer.Example.{Example}
 use Rattle.omega_lang_intersection.specs.declared.answer.Intersection.{Intersection}
 use Rattle.omega_lang_intersection.specs.declared.answer.Intersection.TheVariants.{Common, Empty}
 use Rattle.omega_lang_lasso_text.specs.Written.{lasso_text}
-use Rattle.omega_lang_inclusion.specs.Membership.{IsMembership}
+use Rattle.omega_lang_inclusion.specs.Membership.{HasStringNames, IsMembership}
 use Rattle.omega_lang_inclusion.specs.OneWord.{IsOneWordFor}
 use Rattle.omega_lang_inclusion.specs.SomeWord.{IsSomeMembership}
 use Rattle.omega_lang_inclusion.specs.declared.membership.Membership.{Membership}
@@ -105,7 +105,7 @@ some_said law writable fitting names words_one word text explain exit output ans
           accepted = of_text law text a named answer.input_read accepts;
         }))
     go (Common example) is ends written =
-        let both = (strings, names word symbolic answer.file_read) in
+        let both : HasStrings a × HasStringNames symbolic = (strings, names word symbolic answer.file_read) in
         subst (λ (e : Exit). SaysSomeAccepted word text explain e output) (sym ends)
         (record {
           symbolic = symbolic;
