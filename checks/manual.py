@@ -88,7 +88,7 @@ def refusals_of_formats() -> set[tuple[str, str]]:
 
 def options_of(help_text: str) -> set[str]:
     """The long options with the names of their values."""
-    found = re.findall(r"^ +(?:-\w, )?(--[a-z]+)(?: <(\w+)>)?", help_text, re.MULTILINE)
+    found = re.findall(r"^ +(?:-\w, )?(--[a-z-]+)(?: <(\w+)>)?", help_text, re.MULTILINE)
     return {f"{name} {value}".strip() for name, value in found if name not in ("--help", "--version")}
 
 

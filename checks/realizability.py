@@ -270,6 +270,10 @@ class Winner:
         bodies = {state.number: state for state in self.own.states}
         for own, state in found:
             waiting = iter(self.asked_of.leaving(state))
+            if self.lettered and own not in bodies:
+                # A state that the specification does not define has no line. No edge answers any letter.
+                self.letters[state] = frozenset()
+                continue
             edges = bodies[own].edges if own in bodies else []
             if self.lettered and [edge.targets for edge in edges] == [[own]] and self.is_letter(edges[0].label):
                 # No edge answers the letter of the state, which is written on an edge of its own.

@@ -250,6 +250,8 @@ class Altered:
 
     def started_twice(self) -> bytes:
         """With another start beside."""
+        if not self.states:
+            return self.text
         return self.text.replace(b"AP:", b"Start: %s\nAP:" % self.target(), 1)
 
     def each(self) -> Iterator[tuple[str, bytes]]:
