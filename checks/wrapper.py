@@ -125,7 +125,7 @@ class Timing:
 
 
 def share_fault(omega: Any) -> Fault:
-    """What is wrong if the package takes over a tenth of the time in which a large game is solved, or nothing."""
+    """What is wrong if the package takes over a third of the time in which a large game is solved, or nothing."""
     draw, count = random.Random(5), 200_000
     priorities, owners = array("I", (draw.randrange(8) for _ in range(count))), bytearray(count)
     flat = array("I", range(0, 2 * count + 1, 2)), array("I", (draw.randrange(count) for _ in range(2 * count)))
@@ -137,7 +137,7 @@ def share_fault(omega: Any) -> Fault:
         whole = time.thread_time() - began
     finally:
         omega.library.LIBRARY = library
-    return None if whole - timing.seconds <= whole / 10 else f"{whole - timing.seconds:.3f} of {whole:.3f} seconds"
+    return None if whole - timing.seconds <= whole / 3 else f"{whole - timing.seconds:.3f} of {whole:.3f} seconds"
 
 
 def runs_fault(omega: Any, text: bytes, wanted: int) -> Fault:
