@@ -17,7 +17,7 @@ use Rattle.omega_lang_product.proofs.Membership.{Contains-nothing}
 use Rattle.omega_lang_word_laws.proofs.naming.Named.{contained_at}
 
 -- the first place of a name among others has this name
-name_there : (joined : List (List ℕ)) (name : List ℕ) → Contains joined name → get_or joined (position_or_len (bytes_eq name) joined) [] ≡ name
+pub name_there : (joined : List (List ℕ)) (name : List ℕ) → Contains joined name → get_or joined (position_or_len (bytes_eq name) joined) [] ≡ name
 name_there joined name within = sym ((bytes_eq-Decides name (get_or joined at [])).0 (passes_at_first (bytes_eq name) joined [] (go (cases_lt at (length joined)))))
   where
     at : ℕ

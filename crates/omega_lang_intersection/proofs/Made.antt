@@ -38,7 +38,7 @@ use Rattle.omega_lang_intersection.proofs.Formulas.{label_below, named_first}
 use Rattle.omega_lang_intersection.proofs.Standing.{Row, first_is, label_is, row}
 
 -- a numbered edge of a row is one of the automaton, by its number
-numbered_within : (first : ℕ) (ts : List Transition) (x : Numbered) → Contains (numbered_from first ts) x → Contains ts x.transition
+pub numbered_within : (first : ℕ) (ts : List Transition) (x : Numbered) → Contains (numbered_from first ts) x → Contains ts x.transition
 numbered_within first [] x within = absurd (Contains-nothing x within)
 numbered_within first (t ∷ ts) x within = elim (Contains-cases (record { number = first; transition = t }) x (numbered_from (first + 1) ts) within) [
   | inl here ↦ let P : Transition → Type 0 = λ u. Contains (t ∷ ts) u in subst P (ap (λ (y : Numbered). y.transition) here) (Contains-here t ts)

@@ -75,7 +75,7 @@ place_below joined name within = go (cases_lt (position_or_len (bytes_eq name) j
         absurd (false≢true (sym fails ∙ (bytes_eq-Decides name _).1 (sym within.2)))
 
 -- names of both are among the joined ones
-second_within : (names others : List (List ℕ)) (name : List ℕ) → Contains others name → Contains (joined_names names others) name
+pub second_within : (names others : List (List ℕ)) (name : List ℕ) → Contains others name → Contains (joined_names names others) name
 second_within names others name within = go (list_any (bytes_eq name) names) refl
   where
     test : List ℕ → Bool

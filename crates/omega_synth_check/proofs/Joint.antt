@@ -30,7 +30,7 @@ use Rattle.omega_lang_word_laws.proofs.meeting.Meeting.{leads_to, one_start}
 use Rattle.omega_lang_word_laws.proofs.meeting.Transitions.{IsListedAt, numbered_found}
 use Rattle.omega_lang_intersection.proofs.Formulas.{named_first}
 use Rattle.omega_lang_intersection.proofs.Made.{IsMade, made}
-use Rattle.omega_synth_check.proofs.JoinedNames.{numbered_within}
+use Rattle.omega_lang_intersection.proofs.Made.{numbered_within}
 use Rattle.omega_lang_intersection.proofs.Standing.{Row, label_is, product_named, row, second_is}
 use Rattle.omega_synth_check.specs.CounterJudging.{GoesAt, NamedLetter}
 use Rattle.omega_synth_check.specs.private.Letterless.{enters_sink, is_way_out, source_in, source_of}

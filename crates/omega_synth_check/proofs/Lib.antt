@@ -11,7 +11,6 @@ pub mod KeptParts
 pub mod Searches
 pub mod Strategies
 pub mod WaysOut
-pub mod JoinedNames
 pub mod Sides
 pub mod Joint
 pub mod Rests

@@ -6,7 +6,7 @@ use Rattle.omega_text.specs.declared.refusal.task.TaskFault.{TaskFault}
 use Rattle.omega_text.specs.declared.refusal.task.TaskFault.TheVariants.{TooManyPropositions}
 use Rattle.omega_hoa_automaton.specs.Automaton.{Description}
 use Rattle.omega_lang_runs.specs.Judging.{GivesUpOn}
-use Rattle.omega_synth_game.specs.Making.{AllLeave, IsAskingFault, IsUnasked}
+use Rattle.omega_synth_game.specs.Making.{AllLeave, IsAskingFault, IsQuestionsOfRefusal}
 use Rattle.omega_hoa_edges.proofs.Refusals.{task_weaker}
 use Rattle.omega_synth_check.specs.CounterRefusing as counter
 use Rattle.omega_synth_check.specs.CounterRefusing.{IsCounterRefusal}
@@ -37,7 +37,7 @@ letters_searched a controlled (Some lack) lacks = inl (lack, lacks)
 
 -- the letters of a state that is reached
 pub unasked_refused : (a : Description) (controlled : List ℕ) (state : ℕ) (numbers : List ℕ) → IsReached a state → AllLeave a state numbers → (refusal : Refusal)
-    → IsUnasked a controlled numbers refusal → IsLetterRefusal a controlled refusal
+    → IsQuestionsOfRefusal a controlled numbers refusal → IsLetterRefusal a controlled refusal
 unasked_refused a controlled state numbers reached leave refusal refused =
     task_weaker (IsAskingFault a controlled numbers) (IsLetterFault a controlled) (λ fault asking. not_asked fault state numbers reached leave asking) refusal refused
 

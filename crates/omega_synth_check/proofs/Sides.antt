@@ -15,7 +15,8 @@ use Rattle.omega_lang_word_laws.proofs.meeting.Lists.{same_some}
 use Rattle.omega_lang_word_laws.proofs.meeting.Meeting.{usable_of}
 use Rattle.omega_lang_word_laws.proofs.meeting.Transitions.{IsTransition, found_transition, listed_transition}
 use Rattle.omega_lang_word_laws.proofs.naming.Named.{allowed_same, contained_at}
-use Rattle.omega_synth_check.proofs.JoinedNames.{name_there, second_within}
+use Rattle.omega_lang_intersection.proofs.Formulas.{name_there}
+use Rattle.omega_lang_intersection.proofs.Naming.{second_within}
 use Rattle.omega_synth_check.specs.CounterJudging.{GoesAt, NamedLetter}
 
 -- what an automaton with propositions of these names sees of a letter

@@ -3,7 +3,7 @@
 ghost use Rattle.std.specs.Prelude.{◌≡◌, ◌<◌, [], ℕ, Bool, All, IfErr, IfNone};
 ghost use Rattle.std.specs.Prelude.{IfOk, IfSome, OnOk, length, slice_index_or};
 ghost use Rattle.omega_lang_runs.specs.Places.{ArePlaces};
-ghost use Rattle.omega_synth_game.specs.Making.{HaveFewInputs, IsUnasked};
+ghost use Rattle.omega_synth_game.specs.Making.{HaveFewInputs, IsQuestionsOfRefusal};
 ghost use Rattle.omega_synth_check.specs.private.Searching.{NoneAnswers, SomeAnswers};
 
 use omega_hoa_automaton::{Automaton, Refusal};
@@ -28,7 +28,7 @@ pub(crate) fn unanswered_letter(
     ensures answered { IfOk result (λ found. IfNone found
         ((given : ℕ → Bool) → SomeAnswers automaton.now controlled.now numbers.now given)) }
     ensures few { OnOk result (HaveFewInputs automaton.now controlled.now numbers.now) }
-    ensures refused { IfErr result (IsUnasked automaton.now controlled.now numbers.now) }
+    ensures refused { IfErr result (IsQuestionsOfRefusal automaton.now controlled.now numbers.now) }
 {
     let questions = questions_of(alloc, automaton, places, numbers, controlled)?;
     match first_empty(questions.answers.as_slice()) {

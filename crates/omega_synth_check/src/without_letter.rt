@@ -4,7 +4,7 @@ ghost use Rattle.std.specs.Prelude.{◌≡◌, ◌<◌, ℕ, Bool, All, Contains
 ghost use Rattle.std.specs.Prelude.{IsOkUnless, OnOk, false, length};
 ghost use Rattle.omega_hoa_automaton.specs.Branching.{has_universal_branching};
 ghost use Rattle.omega_lang_runs.specs.Places.{ArePlaces};
-ghost use Rattle.omega_synth_game.specs.Making.{IsUnasked};
+ghost use Rattle.omega_synth_game.specs.Making.{IsQuestionsOfRefusal};
 ghost use Rattle.omega_synth_check.specs.Refusing.{IsLetterRefusal};
 ghost use Rattle.omega_synth_check.specs.private.Meeting.{Extends, HasNext, HasStarts, IsMetOf, state_at};
 ghost use Rattle.omega_synth_check.specs.private.Searching.{IsSearch, SomeAnswers};
@@ -170,7 +170,7 @@ fn blocking_edge(
     ensures first { IfOk result (λ found. IfSome found (Contains out.now)) }
     ensures each { IfOk result (λ found. IfSome found (λ number. (given : ℕ → Bool)
         → SomeAnswers automaton.now controlled.now out.now given)) }
-    ensures refused { IfErr result (IsUnasked automaton.now controlled.now out.now) }
+    ensures refused { IfErr result (IsQuestionsOfRefusal automaton.now controlled.now out.now) }
 {
     let [first, ..] = out else {
         return Ok(None);

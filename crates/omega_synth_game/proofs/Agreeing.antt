@@ -10,7 +10,7 @@ use Rattle.omega_lang_runs.specs.Words.{CanBeTaken}
 use Rattle.omega_synth_controllers.specs.Controllers.{Answers}
 use Rattle.omega_synth_game.specs.Answering.{CanAnswer, HaveSameAnswers, whole_label}
 use Rattle.omega_synth_controllers.specs.Strategies.{is_controlled}
-use Rattle.omega_synth_game.specs.Classes.{input_mentions, inputs_of, label_of_number}
+use Rattle.omega_synth_game.specs.Classes.{input_mentions, mentioned_inputs, label_of_number}
 use Rattle.omega_synth_game.specs.Letters.{holds_in}
 use Rattle.omega_synth_game.proofs.Mentions.{among, among_flat, each_kept, passing, truth_agrees}
 use Rattle.omega_synth_game.proofs.Restricting.{among as contained, uncontrolled}
@@ -24,7 +24,7 @@ label_is a number edge numbered =
 module _ (a : Description) (controlled numbers : List ℕ) where
   -- an input of the label of one of the edges is among the inputs
   pub input_among : (number : ℕ) (edge : BodyEdge) (p : ℕ) → Contains numbers number → edge_at a number ≡ Some edge
-      → is_controlled controlled p ≡ false → among p (propositions (whole_label a number edge)) ≡ true → among p (inputs_of a controlled numbers) ≡ true
+      → is_controlled controlled p ≡ false → among p (propositions (whole_label a number edge)) ≡ true → among p (mentioned_inputs a controlled numbers) ≡ true
   input_among number edge p has numbered free mentioned =
       let input : among p (input_mentions controlled (label_of_number a number)) ≡ true =
       passing (λ q. not (is_controlled controlled q)) p (propositions (label_of_number a number))
@@ -33,7 +33,7 @@ module _ (a : Description) (controlled numbers : List ℕ) where
       (among_flat (λ n. input_mentions controlled (label_of_number a n)) numbers number p has input)
 
 module _ (law : EdgesAreTakenWhereTrue) (a : Description) (controlled numbers : List ℕ) where
-  answers_moved : (one other : ℕ → Bool) → ((p : ℕ) → among p (inputs_of a controlled numbers) ≡ true → one p ≡ other p) → (number : ℕ)
+  answers_moved : (one other : ℕ → Bool) → ((p : ℕ) → among p (mentioned_inputs a controlled numbers) ≡ true → one p ≡ other p) → (number : ℕ)
       → Contains numbers number → Answers a controlled number one → Answers a controlled number other
   answers_moved one other agree number has answer =
       let taken : CanBeTaken a number answer.letter = answer.taken in
@@ -60,7 +60,7 @@ module _ (law : EdgesAreTakenWhereTrue) (a : Description) (controlled numbers : 
       inside p false is own given same = same is
 
   -- letters that agree on the inputs have the same answers
-  pub same_answers : (one other : ℕ → Bool) → ((p : ℕ) → among p (inputs_of a controlled numbers) ≡ true → one p ≡ other p)
+  pub same_answers : (one other : ℕ → Bool) → ((p : ℕ) → among p (mentioned_inputs a controlled numbers) ≡ true → one p ≡ other p)
       → HaveSameAnswers a controlled numbers one other
   same_answers one other agree number has = (
     answers_moved one other agree number has,
@@ -68,6 +68,6 @@ module _ (law : EdgesAreTakenWhereTrue) (a : Description) (controlled numbers : 
   )
 
   -- and so have a letter and the choice of the inputs that hold in it
-  pub choice_same : (given : ℕ → Bool) → HaveSameAnswers a controlled numbers (holds_in (filter given (inputs_of a controlled numbers))) given
+  pub choice_same : (given : ℕ → Bool) → HaveSameAnswers a controlled numbers (holds_in (filter given (mentioned_inputs a controlled numbers))) given
   choice_same given =
-      same_answers (holds_in (filter given (inputs_of a controlled numbers))) given (λ p is. passing given p (inputs_of a controlled numbers) is)
+      same_answers (holds_in (filter given (mentioned_inputs a controlled numbers))) given (λ p is. passing given p (mentioned_inputs a controlled numbers) is)

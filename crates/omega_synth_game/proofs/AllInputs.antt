@@ -7,7 +7,7 @@ use Rattle.omega_hoa_label.specs.Label.{LabelTree, propositions}
 use Rattle.omega_hoa_satisfiable.specs.Satisfiable.{each_once}
 use Rattle.omega_hoa_automaton.specs.Automaton.{BodyEdge, Description, edge_at}
 use Rattle.omega_synth_controllers.specs.Strategies.{is_controlled}
-use Rattle.omega_synth_game.specs.Classes.{input_mentions, inputs_of, label_of_number}
+use Rattle.omega_synth_game.specs.Classes.{input_mentions, mentioned_inputs, label_of_number}
 use Rattle.omega_synth_game.specs.private.Lanes.{AreApart, AreInputsFor, is_one_of}
 use Rattle.omega_synth_game.proofs.Agreeing.{input_among, label_is}
 use Rattle.omega_synth_game.proofs.Mentions.{none_once, none_passing}
@@ -40,7 +40,7 @@ none_flat f (n ∷ numbers) p none =
 
 -- the inputs of edges serve for the label of each
 pub inputs_for : (a : Description) (controlled numbers : List ℕ) (number : ℕ) (edge : BodyEdge) → edge_at a number ≡ Some edge → Contains numbers number
-    → AreInputsFor controlled (inputs_of a controlled numbers) (label_of_number a number)
+    → AreInputsFor controlled (mentioned_inputs a controlled numbers) (label_of_number a number)
 inputs_for a controlled numbers number edge numbered has = record {
   apart = once_apart [] (flat_map (λ n. input_mentions controlled (label_of_number a n)) numbers) tt;
   given = λ p is. elim (cases_Bool (is_controlled controlled p)) [

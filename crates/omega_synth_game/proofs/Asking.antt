@@ -10,7 +10,7 @@ use Rattle.omega_lang_runs.specs.Laws.{EdgesAreTakenWhereTrue}
 use Rattle.omega_synth_controllers.specs.Controllers.{Answers}
 use Rattle.omega_synth_rounds.specs.Extracting.{HaveSameNumbers}
 use Rattle.omega_synth_game.specs.Answering.{AreAnswersAmong, AreAnswersInOrder, HaveSameAnswers}
-use Rattle.omega_synth_game.specs.Classes.{inputs_of}
+use Rattle.omega_synth_game.specs.Classes.{mentioned_inputs}
 use Rattle.omega_synth_game.specs.private.Firsts.{AreFirstPlaces, list_at}
 use Rattle.omega_synth_game.specs.Letters.{holds_in, letter_numbered, letter_of}
 use Rattle.omega_synth_game.specs.Making.{AreQuestionsOf}
@@ -40,10 +40,10 @@ by_letter_more a controlled numbers inputs end answers next are here = record {
 }
 
 module _ (law : EdgesAreTakenWhereTrue) (a : Description) (controlled numbers : List ℕ) (all : List (List ℕ))
-    (are : AreAnswersByLetter a controlled numbers (inputs_of a controlled numbers) (2 ^ length (inputs_of a controlled numbers)) all)
+    (are : AreAnswersByLetter a controlled numbers (mentioned_inputs a controlled numbers) (2 ^ length (mentioned_inputs a controlled numbers)) all)
     (firsts : List ℕ) (first : AreFirstPlaces all (length all) firsts) where
   abbrev inputs : List ℕ
-  inputs = inputs_of a controlled numbers
+  inputs = mentioned_inputs a controlled numbers
 
   abbrev given_by : ℕ → ℕ → Bool
   given_by letter = holds_in (letter_numbered inputs letter)
@@ -148,26 +148,26 @@ module _ (law : EdgesAreTakenWhereTrue) (a : Description) (controlled numbers : 
   }
 
 -- the same where each list is given as it is held
-pub questions_made : EdgesAreTakenWhereTrue → (a : Description) (controlled numbers inputs : List ℕ) → inputs ≡ inputs_of a controlled numbers
+pub questions_made : EdgesAreTakenWhereTrue → (a : Description) (controlled numbers inputs : List ℕ) → inputs ≡ mentioned_inputs a controlled numbers
     → (lent : List ℕ) → lent ≡ inputs → (all shown : List (List ℕ)) → shown ≡ all → AreAnswersByLetter a controlled numbers lent (2 ^ length lent) all
     → (firsts places : List ℕ) → places ≡ firsts → AreFirstPlaces shown (length shown) firsts
     → (letters answers : List (List ℕ)) → letters ≡ map (letter_numbered lent) places → answers ≡ map (list_at shown) places
     → AreQuestionsOf a controlled numbers letters answers
 questions_made law a controlled numbers own own_is lent lent_is all shown shown_is are firsts places places_are first letters answers letters_are lists_are =
-    let lent_are : lent ≡ inputs_of a controlled numbers = lent_is ∙ own_is in
-    let by_letter : AreAnswersByLetter a controlled numbers (inputs_of a controlled numbers) (2 ^ length (inputs_of a controlled numbers)) all =
+    let lent_are : lent ≡ mentioned_inputs a controlled numbers = lent_is ∙ own_is in
+    let by_letter : AreAnswersByLetter a controlled numbers (mentioned_inputs a controlled numbers) (2 ^ length (mentioned_inputs a controlled numbers)) all =
     subst (λ (list : List ℕ). AreAnswersByLetter a controlled numbers list (2 ^ length list) all) lent_are are in
     let first_in : AreFirstPlaces all (length all) firsts =
     subst (λ (lists : List (List ℕ)). AreFirstPlaces lists (length lists) firsts) shown_is first in
-    let letters_is : letters ≡ map (letter_numbered (inputs_of a controlled numbers)) firsts =
-    letters_are ∙ ap (λ (list : List ℕ). map (letter_numbered list) places) lent_are ∙ ap (map (letter_numbered (inputs_of a controlled numbers))) places_are in
+    let letters_is : letters ≡ map (letter_numbered (mentioned_inputs a controlled numbers)) firsts =
+    letters_are ∙ ap (λ (list : List ℕ). map (letter_numbered list) places) lent_are ∙ ap (map (letter_numbered (mentioned_inputs a controlled numbers))) places_are in
     let answers_is : answers ≡ map (list_at all) firsts =
     lists_are ∙ ap (λ (lists : List (List ℕ)). map (list_at lists) places) shown_is ∙ ap (map (list_at all)) places_are in
     subst (λ (lists : List (List ℕ)). AreQuestionsOf a controlled numbers lists answers) (sym letters_is)
-    (subst (λ (lists : List (List ℕ)). AreQuestionsOf a controlled numbers (map (letter_numbered (inputs_of a controlled numbers)) firsts) lists) (sym answers_is)
+    (subst (λ (lists : List (List ℕ)). AreQuestionsOf a controlled numbers (map (letter_numbered (mentioned_inputs a controlled numbers)) firsts) lists) (sym answers_is)
     (questions_are law a controlled numbers all by_letter firsts first_in))
 
-pub questions_held : EdgesAreTakenWhereTrue → (a : Description) (controlled numbers inputs : List ℕ) → inputs ≡ inputs_of a controlled numbers
+pub questions_held : EdgesAreTakenWhereTrue → (a : Description) (controlled numbers inputs : List ℕ) → inputs ≡ mentioned_inputs a controlled numbers
     → (lent : List ℕ) → lent ≡ inputs → (all shown : List (List ℕ)) → shown ≡ all → AreAnswersByLetter a controlled numbers lent (2 ^ length lent) all
     → (firsts places : List ℕ) → places ≡ firsts → AreFirstPlaces shown (length shown) firsts
     → (r : Result Questions Refusal) → IfOk r (λ questions. questions.letters.items ≡ map (letter_numbered lent) places)

@@ -11,7 +11,7 @@ use Rattle.omega_hoa_label.specs.Label.{LabelTree}
 use Rattle.omega_hoa_automaton.specs.Automaton.{BodyEdge, Description, edge_at}
 use Rattle.omega_synth_controllers.specs.Controllers.{Answers}
 use Rattle.omega_lang_runs.specs.Laws.{EdgesAreTakenWhereTrue}
-use Rattle.omega_synth_game.specs.Answering.{AreAnswersInOrder, IsUnanswered, whole_label}
+use Rattle.omega_synth_game.specs.Answering.{AreAnswersInOrder, IsAnswerRefusal, whole_label}
 use Rattle.omega_synth_game.specs.private.EdgeWords.{AreEdgeWords, IsEdgeUnanswered, IsEdgeWord, set_in_lane}
 use Rattle.omega_synth_game.specs.private.Lanes.{IsAnswerWord, is_set}
 use Rattle.omega_synth_game.specs.Letters.{holds_in, letter_numbered}
@@ -102,7 +102,7 @@ module _ (lane : ℕ) (numbers words : List ℕ) (index number word : ℕ) (belo
   lane_not_set off = ap (λ list. set ++ list) (sym (opened ∙ cond-false (is_set word lane) (number ∷ after) after off))
 
 -- the refusal of one letter is one of the edge, and that of an edge one of the edges
-pub letter_refused : (a : Description) (controlled letter : List ℕ) (number : ℕ) (e : Refusal) → IsUnanswered a controlled letter number e
+pub letter_refused : (a : Description) (controlled letter : List ℕ) (number : ℕ) (e : Refusal) → IsAnswerRefusal a controlled letter number e
     → IsEdgeUnanswered a controlled number e
 letter_refused a controlled letter number (Task fault) refused = (letter, refused.0, refused.1, refused.2)
 letter_refused a controlled letter number Memory refused = refused

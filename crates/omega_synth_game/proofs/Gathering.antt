@@ -21,7 +21,7 @@ use Rattle.omega_synth_rounds.specs.declared.rounds.QuestionRange.{QuestionRange
 use Rattle.omega_synth_controllers.specs.Controllers.{Answers}
 use Rattle.omega_synth_game.specs.Answering.{AreAnswersAmong}
 use Rattle.omega_synth_game.specs.Classes.{AreEdgesFrom, IsFirstLetter}
-use Rattle.omega_synth_game.specs.Making.{AllLeave, AreClasses, AreClassesOf, AreQuestionsOf, HasManyQuestions, HaveFewInputs, IsUnasked, IsUnmade, class_count, ranges_from}
+use Rattle.omega_synth_game.specs.Making.{AllLeave, AreClasses, AreClassesOf, AreQuestionsOf, HasManyQuestions, HaveFewInputs, IsQuestionsOfRefusal, IsRoundsOfRefusal, class_count, ranges_from}
 use Rattle.omega_synth_game.specs.private.Making.{AreAskedInTurn, AreStatesAsked, IsInRange, StatesLeave, range_of}
 use Rattle.omega_synth_game.specs.Letters.{holds_in, letter_of}
 use Rattle.omega_synth_game.proofs.Those.{those_members, those_rising}
@@ -301,10 +301,10 @@ many a controlled leaving states ranges answers leave within are more = record {
 -- what hinders the questions of the next state hinders the rounds
 pub state_unmade : (a : Description) (controlled : List ℕ) (leaving : List (List ℕ)) (states : ℕ) (ranges : List QuestionRange) (answers : List (List ℕ))
     (numbers : List ℕ) (e : Refusal) → StatesLeave a leaving → states < length leaving → AreAskedInTurn a controlled leaving states ranges answers
-    → length answers ≤ most_nodes → numbers ≡ get_or leaving states [] → IsUnasked a controlled numbers e → IsUnmade a controlled e
+    → length answers ≤ most_nodes → numbers ≡ get_or leaving states [] → IsQuestionsOfRefusal a controlled numbers e → IsRoundsOfRefusal a controlled e
 state_unmade a controlled leaving states ranges answers numbers e leave within are few here refused = go e refused
   where
-    go : (e : Refusal) → IsUnasked a controlled numbers e → IsUnmade a controlled e
+    go : (e : Refusal) → IsQuestionsOfRefusal a controlled numbers e → IsRoundsOfRefusal a controlled e
     go (Task fault) asking = record {
       before = are.classes;
       each = classes_of a controlled leaving states ranges answers leave (omega (arith, within)) are;

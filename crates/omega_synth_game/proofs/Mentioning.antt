@@ -6,7 +6,7 @@ use Rattle.std.proofs.lemmas.List.{append-nil, take-append-drop, take_more}
 use Rattle.omega_hoa_satisfiable.specs.Satisfiable.{each_once}
 use Rattle.omega_hoa_satisfiable.proofs.Valuations.{length-each_once}
 use Rattle.omega_hoa_automaton.specs.Automaton.{Description}
-use Rattle.omega_synth_game.specs.Classes.{input_mentions, inputs_of, label_of_number}
+use Rattle.omega_synth_game.specs.Classes.{input_mentions, mentioned_inputs, label_of_number}
 
 pub each_once-append : (seen xs ys : List ℕ) → each_once seen (xs ++ ys) ≡ each_once (each_once seen xs) ys
 each_once-append seen [] ys = refl
@@ -15,8 +15,8 @@ each_once-append seen (x ∷ xs) ys =
 
 -- the inputs of one edge more
 pub inputs_more : (a : Description) (controlled numbers : List ℕ) (index number : ℕ) → index < length numbers → number ≡ get_or numbers index 0
-    → inputs_of a controlled (take (index + 1) numbers)
-    ≡ each_once (inputs_of a controlled (take index numbers)) (input_mentions controlled (label_of_number a number))
+    → mentioned_inputs a controlled (take (index + 1) numbers)
+    ≡ each_once (mentioned_inputs a controlled (take index numbers)) (input_mentions controlled (label_of_number a number))
 inputs_more a controlled numbers index number below here =
     let f : ℕ → List ℕ = λ n. input_mentions controlled (label_of_number a n) in
     ap (λ list. each_once [] (flat_map f list)) (take_more numbers index 0 below ∙ ap (λ n. take index numbers ++ n ∷ []) (sym here))
@@ -25,11 +25,11 @@ inputs_more a controlled numbers index number below here =
 
 -- some edges mention no more inputs than all
 pub inputs_within : (a : Description) (controlled numbers : List ℕ) (index : ℕ)
-    → length (inputs_of a controlled (take index numbers)) ≤ length (inputs_of a controlled numbers)
+    → length (mentioned_inputs a controlled (take index numbers)) ≤ length (mentioned_inputs a controlled numbers)
 inputs_within a controlled numbers index =
     let f : ℕ → List ℕ = λ n. input_mentions controlled (label_of_number a n) in
-    let parted : inputs_of a controlled numbers ≡ each_once (inputs_of a controlled (take index numbers)) (flat_map f (drop index numbers)) =
+    let parted : mentioned_inputs a controlled numbers ≡ each_once (mentioned_inputs a controlled (take index numbers)) (flat_map f (drop index numbers)) =
     ap (λ list. each_once [] (flat_map f list)) (sym (take-append-drop index numbers))
     ∙ ap (each_once []) (flat_map-append f (take index numbers) (drop index numbers))
     ∙ each_once-append [] (flat_map f (take index numbers)) (flat_map f (drop index numbers)) in
-    omega (arith, ap length parted, length-each_once (inputs_of a controlled (take index numbers)) (flat_map f (drop index numbers)))
+    omega (arith, ap length parted, length-each_once (mentioned_inputs a controlled (take index numbers)) (flat_map f (drop index numbers)))

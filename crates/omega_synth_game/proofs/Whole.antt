@@ -17,7 +17,7 @@ use Rattle.omega_lang_runs.specs.Places.{EdgeStandsAt}
 use Rattle.omega_lang_runs.specs.Words.{index_in}
 use Rattle.omega_lang_runs.specs.declared.place.EdgePlace.{EdgePlace}
 use Rattle.omega_synth_controllers.specs.Controllers.{Answers}
-use Rattle.omega_synth_game.specs.Answering.{CanAnswer, IsUnanswered, restricted, whole_label}
+use Rattle.omega_synth_game.specs.Answering.{CanAnswer, IsAnswerRefusal, restricted, whole_label}
 use Rattle.omega_synth_game.specs.Letters.{holds_in}
 
 is_index_label : (a : Description) (number : ℕ) → IsIndexLabel a number (valuation_label (index_in a.defined number) (length a.propositions))
@@ -76,12 +76,12 @@ module _ (a : Description) (number : ℕ) (place : EdgePlace) (stands : EdgeStan
   answers_judged law controlled letter (Err refusal) label is judged = tt
 
   pub unanswered : (controlled letter : List ℕ) (r : Result Bool Refusal) (label : LabelTree) → label ≡ whole_label a number body
-      → IfErr r (IsUndecidedLabel (restricted controlled letter label)) → IfErr r (IsUnanswered a controlled letter number)
+      → IfErr r (IsUndecidedLabel (restricted controlled letter label)) → IfErr r (IsAnswerRefusal a controlled letter number)
   unanswered controlled letter (Ok possible) label is refused = tt
   unanswered controlled letter (Err refusal) label is refused =
       go refusal (subst (λ (t : LabelTree). IsUndecidedLabel (restricted controlled letter t) refusal) is refused)
     where
-      go : (e : Refusal) → IsUndecidedLabel (restricted controlled letter (whole_label a number body)) e → IsUnanswered a controlled letter number e
+      go : (e : Refusal) → IsUndecidedLabel (restricted controlled letter (whole_label a number body)) e → IsAnswerRefusal a controlled letter number e
       go (Task fault) hard = (body, stands.numbered, inr hard)
       go Memory hard = hard
       go (Text fault) hard = absurd hard
@@ -90,10 +90,10 @@ module _ (a : Description) (number : ℕ) (place : EdgePlace) (stands : EdgeStan
       go Io hard = absurd hard
 
   pub unfit_unanswered : (controlled letter : List ℕ) (e : Refusal) (label : LabelTree) → label ≡ whole_label a number body → IsUnfit label e
-      → IsUnanswered a controlled letter number e
+      → IsAnswerRefusal a controlled letter number e
   unfit_unanswered controlled letter e label is unfit = go e (subst (λ (t : LabelTree). IsUnfit t e) is unfit)
     where
-      go : (e : Refusal) → IsUnfit (whole_label a number body) e → IsUnanswered a controlled letter number e
+      go : (e : Refusal) → IsUnfit (whole_label a number body) e → IsAnswerRefusal a controlled letter number e
       go (Task fault) large = (body, stands.numbered, inl large)
       go Memory large = large
       go (Text fault) large = absurd large

@@ -42,16 +42,16 @@ whole_label a number edge =
     unwrap_or (label_of edge) (valuation_label (index_in a.defined number) (length a.propositions))
 
 -- the label is too deep or too large, or what is left of it in the letter may be left undecided
-abbrev pub IsUnjudged : List ℕ → List ℕ → LabelTree → TaskFault → Type 0
-IsUnjudged controlled letter label fault =
+abbrev pub IsLetterLabelFault : List ℕ → List ℕ → LabelTree → TaskFault → Type 0
+IsLetterLabelFault controlled letter label fault =
     ((fault ≡ TooLarge) × (FitsALabel label → ⊥))
     ⊎ ((fault ≡ TooManyPropositions) × IsHardLabel (restricted controlled letter label))
 
 -- the refusal of judging whether the edge with a number answers the letter: by its label, or want of memory
-abbrev pub IsUnanswered : Description → List ℕ → List ℕ → ℕ → Refusal → Type 0
-IsUnanswered a controlled letter number =
+abbrev pub IsAnswerRefusal : Description → List ℕ → List ℕ → ℕ → Refusal → Type 0
+IsAnswerRefusal a controlled letter number =
     or_task (λ fault. (edge : BodyEdge) × (edge_at a number ≡ Some edge)
-    × IsUnjudged controlled letter (whole_label a number edge) fault) (or_memory never)
+    × IsLetterLabelFault controlled letter (whole_label a number edge) fault) (or_memory never)
 
 -- the answers are those of the edges with these numbers that answer the environment's letter
 abbrev pub AreAnswersAmong : Description → List ℕ → List ℕ → (ℕ → Bool) → List ℕ → Type 0

@@ -21,8 +21,8 @@ label_of_number a number =
     unwrap_or (option_map (whole_label a number) (edge_at a number)) (constant true)
 
 -- the inputs that the labels of edges, given by number, mention, each once
-abbrev pub inputs_of : Description → List ℕ → List ℕ → List ℕ
-inputs_of a controlled numbers =
+abbrev pub mentioned_inputs : Description → List ℕ → List ℕ → List ℕ
+mentioned_inputs a controlled numbers =
     each_once [] (flat_map (λ number. input_mentions controlled (label_of_number a number)) numbers)
 
 -- the edge with a number leaves the state
@@ -39,9 +39,9 @@ pub record AreEdgesFrom (a : Description) (state : ℕ) (numbers : List ℕ) : T
 -- the letter is the first, by its number over the inputs, that these edges answer as they do
 pub record IsFirstLetter (a : Description) (controlled numbers letter : List ℕ) : Type 0 where
   pub number : ℕ
-  pub is : letter ≡ letter_numbered (inputs_of a controlled numbers) number
+  pub is : letter ≡ letter_numbered (mentioned_inputs a controlled numbers) number
   pub first : (earlier : ℕ) → earlier < number → HaveSameAnswers a controlled numbers
-      (holds_in (letter_numbered (inputs_of a controlled numbers) earlier)) (holds_in letter) → ⊥
+      (holds_in (letter_numbered (mentioned_inputs a controlled numbers) earlier)) (holds_in letter) → ⊥
 
 -- the letter is the first of its class in the state
 pub record IsLeastInState (a : Description) (controlled : List ℕ) (state : ℕ)

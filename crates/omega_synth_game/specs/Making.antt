@@ -1,5 +1,5 @@
 -- How the rounds of an automaton are made: for each state a question for each class of letters, and the refusals.
-pub use Rattle.omega_synth_game.specs.Classes.{IsLeaving, inputs_of}
+pub use Rattle.omega_synth_game.specs.Classes.{IsLeaving, mentioned_inputs}
 use Rattle.std.specs.Prelude.{◌≡◌, ◌⊎◌, ℕ, ◌+◌, ◌<◌, ◌≤◌, Bool, List, [], ◌∷◌, Contains}
 use Rattle.std.specs.Prelude.{Some, length, slice_index_or, sum_by}
 use Rattle.std.specs.List.{flat_map}
@@ -14,7 +14,8 @@ use Rattle.omega_game_values.specs.Limits.{most_nodes}
 use Rattle.omega_synth_rounds.specs.Extracting.{HaveSameNumbers}
 use Rattle.omega_synth_rounds.specs.declared.rounds.QuestionRange.{QuestionRange}
 use Rattle.omega_synth_rounds.specs.declared.rounds.Rounds.{Rounds}
-use Rattle.omega_synth_game.specs.Answering.{AreAnswersAmong, AreAnswersInOrder, IsUnjudged, whole_label}
+use Rattle.omega_synth_game.specs.Answering.{AreAnswersAmong, AreAnswersInOrder, IsLetterLabelFault}
+use Rattle.omega_synth_game.specs.Answering.{whole_label}
 use Rattle.omega_synth_game.specs.Classes.{AreEdgesFrom, IsFirstLetter}
 use Rattle.omega_synth_game.specs.Letters.{holds_in, letter_of}
 
@@ -40,7 +41,7 @@ pub record AreQuestionsOf (a : Description) (controlled numbers : List ℕ)
 
 -- the labels of the edges with these numbers mention no more inputs than the limit
 abbrev pub HaveFewInputs : Description → List ℕ → List ℕ → Type 0
-HaveFewInputs a controlled numbers = length (inputs_of a controlled numbers) ≤ most_mentioned
+HaveFewInputs a controlled numbers = length (mentioned_inputs a controlled numbers) ≤ most_mentioned
 
 -- the classes of the letters that the edges with these numbers answer, each given by those of the edges that answer it;
 -- the labels mention few inputs
@@ -64,18 +65,18 @@ ranges_from first (here ∷ rest) =
 abbrev pub IsSomeUnjudged : Description → List ℕ → List ℕ → TaskFault → Type 0
 IsSomeUnjudged a controlled numbers fault = (letter : List ℕ) × (number : ℕ)
     × Contains numbers number × (edge : BodyEdge) × (edge_at a number ≡ Some edge)
-    × IsUnjudged controlled letter (whole_label a number edge) fault
+    × IsLetterLabelFault controlled letter (whole_label a number edge) fault
 
 -- the fault of the questions of a state that the edges with these numbers leave: too many inputs, or an edge that
 -- cannot be judged in some letter
 abbrev pub IsAskingFault : Description → List ℕ → List ℕ → TaskFault → Type 0
 IsAskingFault a controlled numbers fault =
-    ((fault ≡ TooManyPropositions) × (most_mentioned < length (inputs_of a controlled numbers)))
+    ((fault ≡ TooManyPropositions) × (most_mentioned < length (mentioned_inputs a controlled numbers)))
     ⊎ IsSomeUnjudged a controlled numbers fault
 
 -- the refusal of the questions of a state
-abbrev pub IsUnasked : Description → List ℕ → List ℕ → Refusal → Type 0
-IsUnasked a controlled numbers = or_task (IsAskingFault a controlled numbers) (or_memory never)
+abbrev pub IsQuestionsOfRefusal : Description → List ℕ → List ℕ → Refusal → Type 0
+IsQuestionsOfRefusal a controlled numbers = or_task (IsAskingFault a controlled numbers) (or_memory never)
 
 -- the edges with these numbers leave the state
 abbrev pub AllLeave : Description → ℕ → List ℕ → Type 0
@@ -119,7 +120,7 @@ pub record IsMakingFault (a : Description) (controlled : List ℕ) (fault : Task
 
 -- the refusal of the rounds, in the order of the states: the fault of the questions of a state, or too many questions
 -- up to a state; or want of memory
-abbrev pub IsUnmade : Description → List ℕ → Refusal → Type 0
-IsUnmade a controlled =
+abbrev pub IsRoundsOfRefusal : Description → List ℕ → Refusal → Type 0
+IsRoundsOfRefusal a controlled =
     or_game (λ fault. (fault ≡ TooManyNodes) × HasManyQuestions a controlled)
     (or_task (IsMakingFault a controlled) (or_memory never))

@@ -3,7 +3,7 @@
 ghost use Rattle.std.specs.Prelude.{◌≡◌, ◌<◌, ◌≤◌, ◌*◌, ◌^◌, All, IfErr, IfOk, IfSome, length};
 ghost use Rattle.omega_hoa_expression.specs.Limits.{most_mentioned};
 ghost use Rattle.omega_lang_runs.specs.Places.{ArePlaces, EdgeStandsAt};
-ghost use Rattle.omega_synth_game.specs.Classes.{inputs_of, label_of_number};
+ghost use Rattle.omega_synth_game.specs.Classes.{mentioned_inputs, label_of_number};
 ghost use Rattle.omega_synth_game.specs.private.EdgeWords.{AreEdgeWords, IsEdgeUnanswered, IsEdgeWord};
 ghost use Rattle.omega_synth_game.specs.private.Lanes.{AreInputsFor};
 ghost use Rattle.omega_synth_game.specs.private.Making.{IsSomeLetterUnanswered};
@@ -31,7 +31,7 @@ fn edge_words(
     requires places { ArePlaces automaton.now places.now }
     requires numbers { All (λ number. number < length places.now) numbers.now }
     requires inputs { lanes.now.inputs.now
-        ≡ inputs_of automaton.now lanes.now.controlled.now numbers.now }
+        ≡ mentioned_inputs automaton.now lanes.now.controlled.now numbers.now }
     requires few { length lanes.now.inputs.now ≤ most_mentioned }
     requires block { lanes.now.block * 64 < 2 ^ length lanes.now.inputs.now }
     ensures words { IfOk result (λ words. AreEdgeWords automaton.now lanes.now.controlled.now
@@ -62,7 +62,7 @@ pub(crate) fn words_at(
     requires places { ArePlaces automaton.now places.now }
     requires numbers { All (λ number. number < length places.now) numbers.now }
     requires inputs { lanes.now.inputs.now
-        ≡ inputs_of automaton.now lanes.now.controlled.now numbers.now }
+        ≡ mentioned_inputs automaton.now lanes.now.controlled.now numbers.now }
     requires few { length lanes.now.inputs.now ≤ most_mentioned }
     requires block { lanes.now.block * 64 < 2 ^ length lanes.now.inputs.now }
     requires words { 0 < lane → AreEdgeWords automaton.now lanes.now.controlled.now

@@ -5,7 +5,7 @@ ghost use Rattle.omega_hoa_expression.specs.Limits.{most_mentioned};
 ghost use Rattle.omega_hoa_label.specs.Label.{proposition};
 ghost use Rattle.omega_lang_runs.specs.Places.{ArePlaces, EdgeStandsAt};
 ghost use Rattle.omega_hoa_satisfiable.specs.Satisfiable.{each_once};
-ghost use Rattle.omega_synth_game.specs.Classes.{input_mentions, inputs_of, label_of_number};
+ghost use Rattle.omega_synth_game.specs.Classes.{input_mentions, mentioned_inputs, label_of_number};
 ghost use Rattle.omega_synth_game.specs.Letters.{letter_numbered};
 ghost use Rattle.omega_synth_game.specs.private.Making.{HasManyInputs};
 
@@ -31,7 +31,7 @@ pub fn mentioned_inputs(
     requires places { ArePlaces automaton.now places.now }
     requires numbers { All (λ number. number < length places.now) numbers.now }
     ensures inputs { IfOk result
-        (λ inputs. inputs ≡ inputs_of automaton.now controlled.now numbers.now) }
+        (λ inputs. inputs ≡ mentioned_inputs automaton.now controlled.now numbers.now) }
     ensures few { IfOk result (λ inputs. length inputs ≤ most_mentioned) }
     ensures refused { IfErr result (HasManyInputs automaton.now controlled.now numbers.now) }
 {

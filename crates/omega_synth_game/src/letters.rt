@@ -3,7 +3,7 @@
 ghost use Rattle.std.specs.Prelude.{◌↔◌, IfErr, IfOk, IsTrue};
 ghost use Rattle.omega_synth_controllers.specs.Controllers.{Answers};
 ghost use Rattle.omega_lang_runs.specs.Places.{EdgeStandsAt};
-ghost use Rattle.omega_synth_game.specs.Answering.{IsUnanswered};
+ghost use Rattle.omega_synth_game.specs.Answering.{IsAnswerRefusal};
 ghost use Rattle.omega_synth_game.specs.Letters.{holds_in};
 
 use crate::answering::can_answer;
@@ -28,7 +28,7 @@ pub(crate) fn answers_letter(
     requires { EdgeStandsAt automaton.now _number place }
     ensures judged { IfOk result
         (λ answers. IsTrue answers ↔ Answers automaton.now controlled.now _number (holds_in letter.now)) }
-    ensures refused { IfErr result (IsUnanswered automaton.now controlled.now letter.now _number) }
+    ensures refused { IfErr result (IsAnswerRefusal automaton.now controlled.now letter.now _number) }
 {
     edges_are_taken_where_true();
     let count = automaton.propositions().len();

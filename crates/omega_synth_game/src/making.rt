@@ -5,7 +5,7 @@ ghost use Rattle.omega_hoa_automaton.specs.AcceptanceKind.{HasKind};
 ghost use Rattle.omega_hoa_automaton.specs.Branching.{has_universal_branching};
 ghost use Rattle.omega_hoa_acceptance.specs.declared.kind.AccKind.TheVariants as kinds;
 ghost use Rattle.omega_synth_rounds.specs.Rounds.{IsRounds};
-ghost use Rattle.omega_synth_game.specs.Making.{AreAskedByState, IsUnmade};
+ghost use Rattle.omega_synth_game.specs.Making.{AreAskedByState, IsRoundsOfRefusal};
 ghost use Rattle.omega_synth_game.specs.RoundsOf.{AreRoundsOf};
 
 use crate::leaving::leaving_edges;
@@ -45,7 +45,7 @@ pub fn rounds_of(
         (λ made. AreRoundsOf automaton.now controlled.now kind made.rounds made.letters) }
     ensures rounds { IfOk result (λ made. IsRounds made.rounds) }
     ensures by_state { IfOk result (λ made. AreAskedByState automaton.now controlled.now made.rounds) }
-    ensures refused { IfErr result (IsUnmade automaton.now controlled.now) }
+    ensures refused { IfErr result (IsRoundsOfRefusal automaton.now controlled.now) }
 {
     automaton.keeps_limits();
     let places = edge_places(alloc, automaton)?;

@@ -4,12 +4,12 @@ ghost use Rattle.std.specs.Prelude.{◌≡◌, ◌^◌, ◌<◌, ◌≤◌, All,
 ghost use Rattle.std.specs.Prelude.{OnOk, length, map};
 ghost use Rattle.omega_hoa_expression.specs.Limits.{most_mentioned};
 ghost use Rattle.omega_lang_runs.specs.Places.{ArePlaces};
-ghost use Rattle.omega_synth_game.specs.Classes.{inputs_of};
+ghost use Rattle.omega_synth_game.specs.Classes.{mentioned_inputs};
 ghost use Rattle.omega_synth_game.specs.private.Firsts.{list_at};
 ghost use Rattle.omega_synth_game.specs.Letters.{letter_numbered};
 ghost use Rattle.omega_synth_game.specs.Making.{AreQuestionsOf, HaveFewInputs};
 ghost use Rattle.omega_synth_game.specs.private.Making.{AreAnswersByLetter};
-ghost use Rattle.omega_synth_game.specs.Making.{IsUnasked};
+ghost use Rattle.omega_synth_game.specs.Making.{IsQuestionsOfRefusal};
 ghost use Rattle.omega_synth_game.specs.private.Making.{IsSomeLetterUnanswered};
 
 use crate::edge_words::words_at;
@@ -52,7 +52,7 @@ pub fn questions_of(
     ensures questions { IfOk result (λ questions. AreQuestionsOf automaton.now controlled.now
         numbers.now questions.letters.items questions.answers.items) }
     ensures few { OnOk result (HaveFewInputs automaton.now controlled.now numbers.now) }
-    ensures refused { IfErr result (IsUnasked automaton.now controlled.now numbers.now) }
+    ensures refused { IfErr result (IsQuestionsOfRefusal automaton.now controlled.now numbers.now) }
 {
     edges_are_taken_where_true();
     let mentioned = mentioned_inputs(alloc, automaton, places, numbers, controlled)?;
@@ -75,7 +75,7 @@ fn answers_by_letter(
 ) -> Result<Vec<Numbers>, Refusal>
     requires places { ArePlaces automaton.now places.now }
     requires numbers { All (λ number. number < length places.now) numbers.now }
-    requires inputs { inputs.now ≡ inputs_of automaton.now controlled.now numbers.now }
+    requires inputs { inputs.now ≡ mentioned_inputs automaton.now controlled.now numbers.now }
     requires few { length inputs.now ≤ most_mentioned }
     ensures answers { IfOk result (λ answers. AreAnswersByLetter automaton.now controlled.now
         numbers.now inputs.now (2 ^ length inputs.now) answers.items) }

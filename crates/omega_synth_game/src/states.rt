@@ -6,7 +6,7 @@ ghost use Rattle.omega_game_values.specs.Limits.{most_nodes};
 ghost use Rattle.omega_lang_runs.specs.Places.{ArePlaces};
 ghost use Rattle.omega_synth_game.specs.Making.{AllLeave, AreQuestionsOf};
 ghost use Rattle.omega_synth_game.specs.private.Making.{AreAskedInTurn};
-ghost use Rattle.omega_synth_game.specs.Making.{HaveFewInputs, IsUnasked, IsUnmade};
+ghost use Rattle.omega_synth_game.specs.Making.{HaveFewInputs, IsQuestionsOfRefusal, IsRoundsOfRefusal};
 ghost use Rattle.omega_synth_game.specs.private.Making.{AreStatesAsked};
 ghost use Rattle.omega_synth_game.specs.private.Making.{StatesLeave};
 
@@ -41,7 +41,7 @@ pub(crate) fn states_asked(
         (length leaving.now) asked.ranges.items asked.letters.items asked.answers.items) }
     ensures in_turn { IfOk result (λ asked. AreAskedInTurn automaton.now controlled.now
         leaving.now (length leaving.now) asked.ranges.items asked.answers.items) }
-    ensures refused { IfErr result (IsUnmade automaton.now controlled.now) }
+    ensures refused { IfErr result (IsRoundsOfRefusal automaton.now controlled.now) }
 {
     let mut asked = StatesAsked {
         ranges: Vec::new(alloc),
@@ -71,7 +71,7 @@ fn asked_in(
     ensures questions { IfOk result (λ questions. AreQuestionsOf automaton.now controlled.now
         numbers.now questions.letters.items questions.answers.items) }
     ensures few { OnOk result (HaveFewInputs automaton.now controlled.now numbers.now) }
-    ensures refused { IfErr result (IsUnasked automaton.now controlled.now numbers.now) }
+    ensures refused { IfErr result (IsQuestionsOfRefusal automaton.now controlled.now numbers.now) }
 {
     questions_of(alloc, automaton, places, numbers, controlled)
 }

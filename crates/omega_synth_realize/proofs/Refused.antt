@@ -21,7 +21,7 @@ use Rattle.omega_synth_realize.specs.Solving.{IsOutcomeRefusal, LiftsRounds}
 use Rattle.omega_synth_realize.proofs.Sized.{large, many_nodes}
 use Rattle.omega_synth_realize.proofs.Strategies.{lifted_refused}
 use Rattle.omega_synth_game.specs.Laws.{IsParted}
-use Rattle.omega_synth_game.specs.Making.{IsMakingFault, IsUnmade}
+use Rattle.omega_synth_game.specs.Making.{IsMakingFault, IsRoundsOfRefusal}
 use Rattle.omega_synth_game.specs.Sizes.{IsSizeFault}
 use Rattle.omega_synth_realize.specs.Lifting.{LiftsAutomaton, LiftsParted}
 use Rattle.omega_synth_realize.specs.Refusing.{HasNoClashBeforeUndecided, HasParityKind, IsJudgeable, IsJudgingFault, IsPartingFault, IsPosed, IsSingle, IsOutcomeRefusalOf, IsPosingRefusal, IsPartingRefusal, IsRealizabilityRefusal, branches, clash, no_kind, second_start, undecided, unjudged, unmade}
@@ -91,7 +91,7 @@ module _ (a : Description) (controlled : List ℕ) where
   unjudgeable_unparted (Automaton fault) refused = absurd refused
   unjudgeable_unparted Io refused = absurd refused
 
-  pub unmade_unparted : IsPosed a → (e : Refusal) → IsUnmade a controlled e → IsPartingRefusal a controlled e
+  pub unmade_unparted : IsPosed a → (e : Refusal) → IsRoundsOfRefusal a controlled e → IsPartingRefusal a controlled e
   unmade_unparted posed (Game fault) refused = (posed, subst (IsSizeFault a controlled) (sym refused.0) (many_nodes a controlled refused.1))
   unmade_unparted posed (Task fault) refused = unmade fault posed refused
   unmade_unparted posed Memory refused = refused

@@ -5,7 +5,7 @@ use Rattle.omega_text.specs.Cases.{never, or_memory, or_task}
 use Rattle.omega_text.specs.declared.refusal.Refusal.{Refusal}
 use Rattle.omega_hoa_automaton.specs.Automaton.{BodyEdge, Description, edge_at}
 use Rattle.omega_synth_controllers.specs.Controllers.{Answers}
-use Rattle.omega_synth_game.specs.Answering.{IsUnjudged, whole_label}
+use Rattle.omega_synth_game.specs.Answering.{IsLetterLabelFault, whole_label}
 use Rattle.omega_synth_game.specs.private.Lanes.{is_set}
 use Rattle.omega_synth_game.specs.Letters.{holds_in, letter_numbered}
 
@@ -34,4 +34,4 @@ set_in_lane lane (number ∷ numbers) (word ∷ words) =
 abbrev pub IsEdgeUnanswered : Description → List ℕ → ℕ → Refusal → Type 0
 IsEdgeUnanswered a controlled number =
     or_task (λ fault. (letter : List ℕ) × (edge : BodyEdge) × (edge_at a number ≡ Some edge)
-    × IsUnjudged controlled letter (whole_label a number edge) fault) (or_memory never)
+    × IsLetterLabelFault controlled letter (whole_label a number edge) fault) (or_memory never)

@@ -16,7 +16,7 @@ use Rattle.omega_synth_rounds.specs.Rounds.{no_edge, no_range}
 use Rattle.omega_synth_rounds.specs.declared.rounds.QuestionRange.{QuestionRange}
 use Rattle.omega_synth_rounds.specs.declared.rounds.RoundEdge.{RoundEdge}
 use Rattle.omega_synth_game.specs.Answering.{AreAnswersAmong, AreAnswersInOrder}
-use Rattle.omega_synth_game.specs.Classes.{AreEdgesFrom, IsFirstLetter, inputs_of}
+use Rattle.omega_synth_game.specs.Classes.{AreEdgesFrom, IsFirstLetter, mentioned_inputs}
 use Rattle.omega_synth_game.specs.Letters.{holds_in, letter_numbered, letter_of}
 use Rattle.omega_synth_game.specs.RoundsOf.{IsRoundEdgeOf}
 use Rattle.omega_synth_game.specs.Making.{AreClasses, IsSomeUnjudged, ranges_from}
@@ -51,7 +51,7 @@ pub record AreLeaving (edges : List RoundEdge) (states end : ℕ) (lists : List 
 -- the refusal of edges that mention more inputs than the limit, or want of memory
 abbrev pub HasManyInputs : Description → List ℕ → List ℕ → Refusal → Type 0
 HasManyInputs a controlled numbers = or_task (λ fault. (fault ≡ TooManyPropositions)
-    × (most_mentioned < length (inputs_of a controlled numbers))) (or_memory never)
+    × (most_mentioned < length (mentioned_inputs a controlled numbers))) (or_memory never)
 
 -- for each letter over inputs, by its number up to an end, the edges with these numbers that answer it, in order
 pub record AreAnswersByLetter (a : Description) (controlled numbers inputs : List ℕ) (end : ℕ)
