@@ -1,11 +1,11 @@
-"""That no line of a comment in the sources is wider than 124 columns."""
+"""That no line of a comment in the sources is wider than 120 columns."""
 import glob
 import os
 from collections.abc import Iterator
 
 from program import ROOT, Cases
 
-WIDEST = 124
+WIDEST = 120
 # Folders of a crate with the ending of their files, and what a line of a comment begins with in these.
 SOURCES = (("src", "rt", "//"), ("specs", "antt", "--"), ("proofs", "antt", "--"))
 

@@ -5,8 +5,8 @@
 //! together (`together`). Those under the valuations of the first six propositions are its truth table (`tables`), and
 //! those of the first twelve its wide table (`wide_table`), with which literals are compared lane by lane
 //! (`literal_lanes`). Another label is turned into steps of a search (`steps`, `encoding`) part by part (`part`,
-//! `exits`), while left parts wait on a stack (`left_parts`). The search goes from step to step (`search`), and its open
-//! branches lie on a stack too (`branches`).
+//! `exits`), while left parts wait on a stack (`left_parts`). The search goes from step to step (`search`), and its
+//! open branches lie on a stack too (`branches`).
 //!
 //! docs/formats.md says when each [`Refusal`] comes.
 #![tactic(auto)]

@@ -1,4 +1,4 @@
--- The temporal operators over facts of numbers that are decided: each is decided by the limited principle of omniscience.
+-- The temporal operators over decided facts of numbers: each is decided by the limited principle of omniscience.
 use Rattle.std.proofs.Common.{◌≡◌, ◌⊎◌, inl, inr, ℕ, suc, ◌+◌, ◌<◌, ◌≤◌, le_refl, subst, arith}
 use Rattle.std.proofs.lemmas.Bool.{cases_lt}
 use Rattle.omega_text.specs.Omniscience.{LimitedPrincipleOfOmniscience}

@@ -1,4 +1,4 @@
--- The shapes of the demands on a node. The demand `2 * node` is that the node holds, and `2 * node + 1` that it does not.
+-- The shapes of the demands on a node: the demand `2 * node` is that it holds, and `2 * node + 1` that it does not.
 use Rattle.std.specs.Prelude.{◌≡◌, ℕ, ◌+◌, ◌*◌, ◌/◌, ◌%◌, ◌<◌, ◌==◌, Bool, true, false, not, List, length}
 use Rattle.std.specs.Prelude.{slice_index_or}
 use Rattle.omega_ltl_formula.specs.Table.{node_at}

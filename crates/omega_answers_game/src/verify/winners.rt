@@ -112,8 +112,8 @@ fn verdict_on_winners(
     made
 }
 
-/// Solves `game` and returns the verdict on `winners`, as `verdict_on_winners` does. The search is one by both searchers
-/// in turns, with an effort of 1.
+/// Solves `game` and returns the verdict on `winners`, as `verdict_on_winners` does. The search is one by both
+/// searchers in turns, with an effort of 1.
 fn verdict_by_search(
     alloc: Global,
     game: &Game,
