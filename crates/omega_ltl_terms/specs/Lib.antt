@@ -1,0 +1,7 @@
+-- The edges of a state by the terms of its demands: what contracts cite.
+pub mod Limits
+pub mod Adding
+pub mod Products
+pub mod Tables
+pub mod Closing
+pub mod private

@@ -1,0 +1,15 @@
+use Rattle.std.proofs.Common.{◌≤◌, ◌-◌, length}
+use Rattle.omega_ltl_translation.specs.Limits.{most_states}
+use Rattle.omega_ltl_translation.specs.private.Graphs.{IsExplored}
+use Rattle.omega_ltl_translation.proofs.exploring.explore.Given as goal
+
+-- the first states have their edges
+abbrev pub invariant-loop-alloc : goal.invariant-loop-alloc
+invariant-loop-alloc l = record {
+  explored : IsExplored l.tables.shapes l.tables.strongs l.root (length l.edges.items) l.states.items l.edges.items;
+  within : length l.edges.items ≤ length l.states.items;
+  few : length l.edges.items ≤ most_states;
+}
+
+abbrev pub decreases-loop-alloc : goal.decreases-loop-alloc
+decreases-loop-alloc l = most_states - length l.edges.items

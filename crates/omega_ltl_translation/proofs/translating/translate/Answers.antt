@@ -1,0 +1,40 @@
+-- the automaton of the graph of the formula is a translation
+use Rattle.std.proofs.Common.{◌≡◌, ◌<◌, ℕ, List, length, sym, subst}
+use Rattle.std.proofs.lemmas.Result.{IfOk-weaker}
+use Rattle.omega_ltl_shapes.specs.Shapes.{demand}
+use Rattle.omega_ltl_translation.specs.Translation.{HasHeader, given_name}
+use Rattle.omega_ltl_translation.specs.declared.graph.GraphEdge.{GraphEdge}
+use Rattle.omega_ltl_translation.specs.private.Automata.{IsAutomatonOf}
+use Rattle.omega_ltl_translation.specs.private.Graphs.{IsExplored}
+use Rattle.omega_ltl_translation.proofs.Choosing.{root_below}
+use Rattle.omega_ltl_translation.proofs.Translations.{translated}
+use Rattle.omega_ltl_translation.proofs.translating.translate.Goals as goal
+
+pub explore-requires-clause-root : goal.explore-requires-clause-root
+explore-requires-clause-root c =
+    subst (λ (d : ℕ). d < length c.in_ok-tables.tables.shapes) (sym c.root_demand-root.ensures)
+    (root_below c.args.formula.now c.keeps_limits.ensures c.in_ok-tables.tables.shapes c.in_ok-tables.ensures.shapes c.args.negated)
+
+pub returns-clause-right : goal.returns-clause-right
+returns-clause-right c =
+    let formula = c.args.formula.now in
+    let shapes = c.in_ok-tables.tables.shapes in
+    let strongs : List ℕ = c.in_ok-tables.tables.strongs in
+    let states : List (List ℕ) = c.in_ok-graph.graph.states.items in
+    let edges : List (List GraphEdge) = c.in_ok-graph.graph.edges.items in
+    let explored : IsExplored shapes strongs (demand formula.root c.args.negated) (length states) states edges =
+    subst (λ (d : ℕ). IsExplored shapes strongs d (length states) states edges) c.root_demand-root.ensures c.in_ok-graph.ensures.explored in
+    let sets : c.len-sets.result ≡ length strongs = c.len-sets.ensures in
+    IfOk-weaker c.automaton_of_graph.result _ _
+    (λ a is. translated c.truths_follow_shapes.ensures c.traces_are_sound.ensures c.good_terms_accept.ensures formula c.keeps_limits.ensures shapes c.in_ok-tables.ensures.shapes
+    strongs c.in_ok-tables.ensures.tables.strongs c.args.negated states edges explored a
+    (subst (λ (n : ℕ). IsAutomatonOf formula.table.names (length strongs) n edges a) explored.counted
+    (subst (λ (es : List (List GraphEdge)). IsAutomatonOf formula.table.names (length strongs) (length es) es a) c.as_slice.ensures.value
+    (subst (λ (n : ℕ). IsAutomatonOf formula.table.names n (length c.as_slice.result.now) c.as_slice.result.now a) sets
+    (subst (λ (names : List (List ℕ)). IsAutomatonOf names c.len-sets.result (length c.as_slice.result.now) c.as_slice.result.now a) c.names.ensures is)))))
+    c.automaton_of_graph.ensures.graph
+
+pub returns-clause-header : goal.returns-clause-header
+returns-clause-header c = IfOk-weaker c.automaton_of_graph.result _ _
+    (λ a is. subst (λ (names : List (List ℕ)). HasHeader (given_name c.args.name.now) names a) c.names.ensures is)
+    c.automaton_of_graph.ensures.header

@@ -1,0 +1,4 @@
+-- The automaton of a formula: what contracts cite.
+pub mod Limits
+pub mod Translation
+pub mod private
