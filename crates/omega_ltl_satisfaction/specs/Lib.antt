@@ -1,0 +1,9 @@
+-- Whether automata and words satisfy formulas: what contracts cite.
+pub mod Satisfaction
+pub mod WordSatisfaction
+pub mod Refusing
+pub mod WordRefusing
+pub mod Names
+pub mod Laws
+pub use Rattle.omega_text.specs.Cases
+pub use Rattle.omega_text.specs.Refusal
