@@ -1,0 +1,2 @@
+-- Lemmas of the answers about formulas.
+pub mod Strings

@@ -1,0 +1,10 @@
+-- What `ltl` and `satisfies` answer and refuse.
+pub mod Formula
+pub mod Canonical
+pub mod Title
+pub mod Ltl
+pub mod Satisfies
+pub mod SatisfiesWord
+pub mod Laws
+pub use Rattle.omega_text.specs.Cases
+pub use Rattle.omega_text.specs.Refusal
