@@ -207,6 +207,23 @@ omega_text_outcome omega_contained(const uint8_t *text, size_t text_bytes, const
 omega_text_outcome omega_equal(const uint8_t *text, size_t text_bytes, const uint8_t *other, size_t other_bytes,
                                uint8_t explain, uint32_t *verdict, omega_text *out);
 
+/* Formulas are texts of linear temporal logic as Spot has them, and each call that is given one refuses 1, 3, 4, 32 and
+ * 55 for it, and 60. */
+
+/* Gives the canonical text of the formula, without a line feed. */
+omega_text_outcome omega_formula(const uint8_t *formula, size_t formula_bytes, omega_text *out);
+
+/* Gives an automaton that accepts exactly the words that satisfy the formula; with `negated` not 0, exactly those that
+ * do not. */
+omega_text_outcome omega_ltl(const uint8_t *formula, size_t formula_bytes, uint8_t negated, omega_text *out);
+
+/* Whether each word that the automaton of `text` accepts satisfies the formula, whose names are propositions. Writes 1
+ * or 0 into `verdict`, and gives a line, `yes` or `no`. With `explain` not 0 the lines of a lasso of the automaton
+ * follow `no`, with a word that does not satisfy the formula. The formula is the second text. Refuses what both texts
+ * may be refused for. */
+omega_text_outcome omega_satisfies(const uint8_t *text, size_t text_bytes, const uint8_t *formula, size_t formula_bytes,
+                                   uint8_t explain, uint32_t *verdict, omega_text *out);
+
 /* Whether some system keeps the specification, a deterministic parity automaton whose item controllable-AP: lists the
  * propositions that the system controls. Writes 1 into `verdict` and gives a controller, or writes 0 and gives a
  * counter-strategy of the environment, each as an automaton. Refuses 13, 14, 40, 50, 51, 55, 56 and 58 too. */

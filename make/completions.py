@@ -9,10 +9,12 @@ VALUES = {"FORMAT": ["pg", "hoa"], "P": ["0", "1"], "SEARCHER": ["zielonka", "ta
 
 @dataclass
 class Option:
-    """An option: its name, what its value is called, if it takes one, and what help says of it."""
+    """An option: its name, what its value is called, if it takes one, what help says of it, and its letter, if it has
+    one."""
     name: str
     value: str
     help: str
+    letter: str
 
 
 @dataclass
@@ -43,9 +45,9 @@ def subcommands_of(program: str) -> list[Subcommand]:
         command = Subcommand(name, said.strip())
         if name != "help":
             for row in section(help_of(program, name), "Options:"):
-                shown = re.match(r"\s+(?:-\w, )?--([a-z]+)(?: <(\w+)>)?\s*(.*)", row)
-                if shown and shown[1] != "help":
-                    command.options.append(Option(shown[1], shown[2] or "", shown[3]))
+                shown = re.match(r"\s+(?:-(\w), )?--([a-z-]+)(?: <(\w+)>)?\s*(.*)", row)
+                if shown and shown[2] != "help":
+                    command.options.append(Option(shown[2], shown[3] or "", shown[4], shown[1] or ""))
         found.append(command)
     return found
 
@@ -60,6 +62,7 @@ def bash_completions(commands: list[Subcommand]) -> str:
     values = "\n".join(f"        --{name}) COMPREPLY=($(compgen -W '{' '.join(given)}' -- \"$word\")); return ;;"
                        for name, given in value_rows(commands))
     files = "|".join(f"--{name}" for name in file_options(commands))
+    others = "|".join(other_options(commands))
     return f"""\
 # Completions of omega for bash.
 _omega() {{
@@ -67,6 +70,7 @@ _omega() {{
     case $before in
 {values}
         {files}) COMPREPLY=($(compgen -f -- "$word")); return ;;
+        {others}) return ;;
     esac
     if [ "$COMP_CWORD" -eq 1 ] || [ "${{COMP_WORDS[1]}}" = help ]; then
         COMPREPLY=($(compgen -W '{names_of(commands)} --help --version' -- "$word"))
@@ -95,6 +99,15 @@ def file_options(commands: list[Subcommand]) -> list[str]:
     return [name for name, one in options.items() if one.value == "FILE"]
 
 
+def other_options(commands: list[Subcommand]) -> list[str]:
+    """The options with a value that is neither known nor a file, by their names and letters; each once, and none that
+    takes no value or a file in another subcommand."""
+    taking = {one.name: one for it in commands for one in it.options if one.value not in ("", "FILE", *VALUES)}
+    apart = {one.name for it in commands for one in it.options if one.value in ("", "FILE", *VALUES)}
+    named = [one for name, one in taking.items() if name not in apart]
+    return [f"--{one.name}" for one in named] + [f"-{one.letter}" for one in named if one.letter]
+
+
 def plain(text: str) -> str:
     """A description without the signs that zsh and fish read."""
     return re.sub(r"[\[\]'\"`:;\\$]", "", text)
@@ -108,7 +121,9 @@ def zsh_completions(commands: list[Subcommand]) -> str:
         for one in it.options:
             values = f":{one.value}:({' '.join(VALUES[one.value])})" if one.value in VALUES else ""
             values = ":file:_files" if one.value == "FILE" else values or (f":{one.value}:" if one.value else "")
-            words.append(f"'--{one.name}[{plain(one.help)}]{values}'")
+            said = f"[{plain(one.help)}]{values}'"
+            words.append(f"'(-{one.letter} --{one.name})'{{-{one.letter},--{one.name}}}'{said}" if one.letter
+                         else f"'--{one.name}{said}")
         rows.append(f"        {it.name}) _arguments {' '.join(words)} '--help[Print help]' '*:file:_files' ;;")
     table = "\n".join(rows)
     return f"""\
@@ -141,5 +156,5 @@ def fish_completions(commands: list[Subcommand]) -> str:
             takes = f" -x -a '{' '.join(VALUES[one.value])}'" if one.value in VALUES else ""
             takes = " -r -F" if one.value == "FILE" else takes or (" -x" if one.value else "")
             lines.append(f"complete -c omega -n '__fish_seen_subcommand_from {it.name}' -l {one.name}"
-                         f"{takes} -d '{plain(one.help)}'")
+                         f"{f' -s {one.letter}' if one.letter else ''}{takes} -d '{plain(one.help)}'")
     return "\n".join(lines) + "\n"

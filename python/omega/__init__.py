@@ -6,6 +6,7 @@ be right. This package, which hands arrays and texts to the library, is tested a
     game = omega.Game.parse("0 1 0 1; 1 2 1 0;")
     game.solve()[0]                                 # Answer(winner=0, choice=1)
     omega.Automaton.parse(text).accepting_lasso()   # an accepting lasso with its word, or None
+    omega.Automaton.parse(text).satisfies("G(request -> F grant)")  # whether each accepted word does
 
 Games come as texts, or as arrays: the priority of each node, its owner, 0 or 1, and its successors, which are places
 of nodes from 0 to n - 1. The successors are a list for each node, or a pair of flat arrays: where the successors of
@@ -27,8 +28,9 @@ bound a call by time; a `Refusal` can be sent between processes.
 """
 from .arrays import NO_CHOICE, Answer, Bounds, Counterexample, Ran, Solution, bound, run, solve, verify
 from .automata import Automaton, Lasso, Realizability
+from .formulas import Formula
 from .games import Game
 from .library import Refusal, version
 
-__all__ = ["NO_CHOICE", "Answer", "Automaton", "Bounds", "Counterexample", "Game", "Lasso", "Ran", "Realizability",
-           "Refusal", "Solution", "bound", "run", "solve", "verify", "version"]
+__all__ = ["NO_CHOICE", "Answer", "Automaton", "Bounds", "Counterexample", "Formula", "Game", "Lasso", "Ran",
+           "Realizability", "Refusal", "Solution", "bound", "run", "solve", "verify", "version"]

@@ -4,10 +4,14 @@ from __future__ import annotations
 import re
 from collections.abc import Iterable
 from dataclasses import dataclass, field
+from typing import TYPE_CHECKING
 
 from .games import Game
 from .languages import decided, given
 from .texts import Text, bytes_of, picture, ran, str_of, written
+
+if TYPE_CHECKING:
+    from .formulas import Formula
 
 # An item of the header of a canonical text, with its name and its values; a value that is a string.
 ITEM = re.compile(rb'([\w-]+:)((?: (?:"(?:[^"\\]|\\.)*"|[^"\s]+))*)\n', re.DOTALL)
@@ -155,6 +159,18 @@ class Automaton:
         """Whether both automata, which are deterministic, accept the same words."""
         return decided("equal", [self._text, other._text], 0)[0]
 
+    def satisfies(self, formula: Formula | Text) -> bool:
+        """Whether each word that this automaton accepts satisfies a formula. A name that the automaton does not have
+        is free. Raises `Refusal` 55 if the automaton of the negated formula, or its product with this one, is too
+        large."""
+        return decided("satisfies", [self._text, _formula_bytes(formula)], 0)[0]
+
+    def violation(self, formula: Formula | Text) -> Lasso | None:
+        """An accepting lasso with a word that does not satisfy the formula; None only if there is no such word. Raises
+        `Refusal` as `satisfies` does."""
+        satisfied, lines = decided("satisfies", [self._text, _formula_bytes(formula)], 1)
+        return None if satisfied else Lasso._of(lines.removeprefix(b"no\n"), self)
+
     def controlling(self, propositions: Iterable[str]) -> Automaton:
         """This automaton as a specification for a system that controls these propositions, by their names: its item
         `controllable-AP:` lists them. Raises ValueError if there is no proposition of a name."""
@@ -198,3 +214,8 @@ class Automaton:
 
     def _repr_svg_(self) -> str:
         return picture(bytes_of(self.draw()))
+
+
+def _formula_bytes(formula: Formula | Text) -> bytes:
+    """The text of a formula, or the text that is given in place of one."""
+    return bytes_of(formula) if isinstance(formula, str) else bytes(formula)

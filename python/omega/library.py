@@ -124,7 +124,8 @@ def _declared(library: ctypes.CDLL) -> ctypes.CDLL:
     calls: list[tuple[str, list[Any]]] = [
         ("empty", [*text, ctypes.c_uint8]), ("complement", [*text]), ("meet", [*text, *text]),
         ("contained", [*text, *text, ctypes.c_uint8, verdict]), ("equal", [*text, *text, ctypes.c_uint8, verdict]),
-        ("realize", [*text, verdict])]
+        ("realize", [*text, verdict]), ("formula", [*text]), ("ltl", [*text, ctypes.c_uint8]),
+        ("satisfies", [*text, *text, ctypes.c_uint8, verdict])]
     for name, words in calls:
         call = getattr(library, f"omega_{name}")
         call.argtypes, call.restype = [*words, held], TextOutcome

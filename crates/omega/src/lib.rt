@@ -6,6 +6,7 @@ mod bounding;
 mod complementing;
 mod containing;
 mod emptiness;
+mod formulas;
 mod freeing;
 mod game;
 mod giving;

@@ -20,11 +20,23 @@ named shown name = record (flag name) { long = Some shown }
 abbrev pub optional : Text → Rule
 optional name = record (new_rule name) { long = Some name; value_names = 1 }
 
+-- the same, which also has a letter
+abbrev pub optional_lettered : ℕ → Text → Rule
+optional_lettered letter name = record (optional name) { short = Some letter }
+
+-- an option with a text, which may be left out and has another name on the command line
+abbrev pub optional_as : (shown : Text) → Text → Rule
+optional_as shown name = record (optional name) { long = Some shown }
+
 -- an option with a text, which has to be given
 abbrev pub required : Text → Rule
 required name = record (new_rule name) { long = Some name; value_names = 1; required = true }
 
--- the same, with another name on the command line
+-- the same, which also has a letter
+abbrev pub required_lettered : ℕ → Text → Rule
+required_lettered letter name = record (required name) { short = Some letter }
+
+-- an option with a text, which has to be given and has another name on the command line
 abbrev pub required_as : (shown : Text) → Text → Rule
 required_as shown name = record (required name) { long = Some shown }
 
@@ -88,6 +100,12 @@ abbrev pub equal : Shape
 equal = with_options (codes "equal")
     (required (codes "to") ∷ flag (codes "explain") ∷ verbose ∷ operand (codes "file") ∷ [])
 
+-- 102 is the letter f
+abbrev pub satisfies : Shape
+satisfies = with_options (codes "satisfies") (required_lettered 102 (codes "formula")
+    ∷ optional_as (codes "word") (codes "word-text") ∷ flag (codes "explain") ∷ verbose
+    ∷ operand (codes "file") ∷ [])
+
 abbrev pub meet : Shape
 meet = with_options (codes "meet")
     (required (codes "with") ∷ flag (codes "trim") ∷ verbose ∷ operand (codes "file") ∷ [])
@@ -101,6 +119,10 @@ complement = with_options (codes "complement")
 
 abbrev pub trim : Shape
 trim = with_options (codes "trim") (flag (codes "stream") ∷ verbose ∷ operand (codes "file") ∷ [])
+
+abbrev pub ltl : Shape
+ltl = with_options (codes "ltl") (optional_lettered 102 (codes "formula") ∷ flag (codes "negated")
+    ∷ verbose ∷ operand (codes "file") ∷ [])
 
 abbrev pub realize : Shape
 realize = with_options (codes "realize")
@@ -120,6 +142,6 @@ abbrev pub program : App
 program = record {
   top = record (new_shape (codes "omega"))
       { is_leaf = false; has_version = true; subcommand_required = true };
-  subs = show ∷ check ∷ canon ∷ solve ∷ verify ∷ empty ∷ game ∷ accepts ∷ contained ∷ equal ∷ meet
-      ∷ join ∷ complement ∷ trim ∷ realize ∷ draw ∷ [];
+  subs = show ∷ check ∷ canon ∷ solve ∷ verify ∷ empty ∷ game ∷ accepts ∷ contained ∷ equal
+      ∷ satisfies ∷ meet ∷ join ∷ complement ∷ trim ∷ ltl ∷ realize ∷ draw ∷ [];
 }

@@ -29,6 +29,8 @@ pub fn options_in<'a>(found: &ArgMatches<'a>) -> Options<'a>
         word: found.get_str("word"),
         word_text: found.get_str("word-text"),
         for_some: found.get_str("some"),
+        formula: found.get_str("formula"),
+        negated: found.get_str("negated"),
         status: found.get_str("status"),
         with: found.get_str("with"),
         trim: found.get_str("trim"),

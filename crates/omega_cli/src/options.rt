@@ -24,8 +24,15 @@ pub enum Value {
     Long(&'static str),
     /// A text. The option may be left out.
     Optional(&'static str),
+    /// A text. The option may be left out, and also has this letter, after one dash.
+    OptionalLettered(char, &'static str),
+    /// A text. The option may be left out, and has this name after its two dashes, in place of the one by which it is
+    /// found.
+    OptionalAs(&'static str, &'static str),
     /// A text. The option has to be given.
     Required(&'static str),
+    /// A text. The option has to be given, and also has this letter, after one dash.
+    RequiredLettered(char, &'static str),
     /// A text. The option has to be given, and has this name after its two dashes, in place of the one by which it is
     /// found.
     RequiredAs(&'static str, &'static str),
@@ -47,7 +54,17 @@ impl OptionHelp {
             }
             Value::Long(name) => arg.long(name).action(ArgAction::SetTrue),
             Value::Optional(name) => arg.long(self.name).value_name(name),
+            Value::OptionalLettered(letter, name) => {
+                arg.long(self.name).short(letter).value_name(name)
+            }
+            Value::OptionalAs(long, name) => arg.long(long).value_name(name),
             Value::Required(name) => arg.long(self.name).value_name(name).required(true),
+            Value::RequiredLettered(letter, name) => {
+                arg.long(self.name)
+                    .short(letter)
+                    .value_name(name)
+                    .required(true)
+            }
             Value::RequiredAs(long, name) => arg.long(long).value_name(name).required(true),
             Value::Operand(name) => arg.value_name(name),
         }

@@ -14,8 +14,10 @@ use crate::empty::empty_command;
 use crate::equal::equal_command;
 use crate::game::game_command;
 use crate::join::join_command;
+use crate::ltl::ltl_command;
 use crate::meet::meet_command;
 use crate::realize::realize_command;
+use crate::satisfies::satisfies_command;
 use crate::show::show_command;
 use crate::solve::solve_command;
 use crate::trim::trim_command;
@@ -45,9 +47,9 @@ A text of the Hanoi format, version 1, holds omega-automata, one after the other
 Here one state has two edges to itself: one where a holds, which is in set 0, and one where it does not.
 A word is accepted if its run takes the first edge again and again. `omega show`, `check` and `canon`
 read both formats, and --format says which, or of a file its first token. `omega empty`, `omega game`,
-`omega accepts`, `omega complement`, `omega trim` and `omega realize` read one automaton,
-`omega contained`, `omega equal`, `omega meet` and `omega join` read two, and `omega draw` draws one
-automaton or a game. With --stream `omega empty`, `contained`, `complement` and `trim` take automata one
+`omega accepts`, `omega satisfies`, `omega complement`, `omega trim` and `omega realize` read one
+automaton, `omega contained`, `omega equal`, `omega meet` and `omega join` read two, and `omega draw`
+draws one automaton or a game. `omega ltl` makes an automaton of a formula. With --stream `omega empty`, `contained`, `complement` and `trim` take automata one
 after the other.
 
 A command reads the file that its last word names, as in `omega solve game.pg`. Without a name, or with
@@ -68,7 +70,8 @@ Exit status:
   3  the budget is used up
   4  out of memory
   5  a read or a write failed
-  6  the answer of `omega verify`, `accepts`, `contained`, `equal`, `realize` or `empty --status` is no
+  6  the answer of `omega verify`, `accepts`, `contained`, `equal`, `satisfies`, `realize` or
+     `empty --status` is no
 
 `omega <COMMAND> --help` says more about a command.";
 
@@ -84,7 +87,7 @@ pub fn matches_of<'a>(alloc: Global, words: &'a [String]) -> Result<ArgMatches<'
 }
 
 /// The subcommands in the order in which help lists them.
-const SUBCOMMANDS: [Subcommand; 16] = [
+const SUBCOMMANDS: [Subcommand; 18] = [
     Subcommand::Show,
     Subcommand::Check,
     Subcommand::Canon,
@@ -95,10 +98,12 @@ const SUBCOMMANDS: [Subcommand; 16] = [
     Subcommand::Accepts,
     Subcommand::Contained,
     Subcommand::Equal,
+    Subcommand::Satisfies,
     Subcommand::Meet,
     Subcommand::Join,
     Subcommand::Complement,
     Subcommand::Trim,
+    Subcommand::Ltl,
     Subcommand::Realize,
     Subcommand::Draw,
 ];
@@ -118,10 +123,12 @@ fn command_of<'a>(alloc: Global, subcommand: Subcommand) -> Result<Command<'a>, 
         Subcommand::Accepts => accepts_command(alloc),
         Subcommand::Contained => contained_command(alloc),
         Subcommand::Equal => equal_command(alloc),
+        Subcommand::Satisfies => satisfies_command(alloc),
         Subcommand::Meet => meet_command(alloc),
         Subcommand::Join => join_command(alloc),
         Subcommand::Complement => complement_command(alloc),
         Subcommand::Trim => trim_command(alloc),
+        Subcommand::Ltl => ltl_command(alloc),
         Subcommand::Realize => realize_command(alloc),
         Subcommand::Draw => draw_command(alloc),
     }
@@ -175,8 +182,9 @@ fn without_subcommands<'a>(alloc: Global) -> Result<Command<'a>, AllocError>
     Command::new(alloc, "omega")
         .about(
             "Reads, checks, writes and draws parity games and omega-automata, solves games, says whether an \
-             automaton accepts anything, verifies such answers, compares what automata accept, forms products, unions \
-             and complements of them, trims them, and finds controllers.",
+             automaton accepts anything, verifies such answers, compares what automata accept, says whether they \
+             satisfy formulas, makes automata of formulas, forms products, unions and complements, trims automata, \
+             and finds controllers.",
         )
         .version(VERSION)
         .after_help("`omega <COMMAND> --help` says more about a command.")

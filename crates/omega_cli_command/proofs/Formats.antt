@@ -1,5 +1,5 @@
 -- The format of a text, where a subcommand takes either.
-use Rattle.std.proofs.Common.{inl, refl}
+use Rattle.std.proofs.Common.{◌∙◌, inl, refl, sym}
 use Rattle.omega_cli_command.specs.Faulty.{IsFaulty}
 use Rattle.omega_cli_command.specs.Formats.{AsksOfEither, LeavesFormat, for_automata}
 use Rattle.omega_cli_command.specs.Mistakes.{IsMistake}
@@ -21,7 +21,7 @@ use Rattle.omega_cli_command.specs.private.Tasks.{default_task}
 pub format_is_mistaken : (subcommand : Subcommand) (options : Options) (found : Mistake) → HasOption subcommand name.Format
     → (LeavesFormat subcommand options → ⊥) → IsFaulty name.Format options found → IsMistake subcommand options found
 format_is_mistaken subcommand options (mistake.Missing option) has left (is, required, none) =
-    inl (rw is has, rw is (refl, required, none), λ _. left)
+    inl (rw is has, rw is (refl, required, none), λ _. left, λ formula. absurd (cc (sym is ∙ formula)), λ word. absurd (cc (sym is ∙ word)))
 format_is_mistaken subcommand options (mistake.Value option text reason) has left (is, given, nothing, why) =
     (rw is has, rw is (refl, given, nothing, why))
 format_is_mistaken subcommand options mistake.Unknown has left faulty = absurd faulty
@@ -46,6 +46,7 @@ automata_are_asked subcommand options (one.EmptySearch word names status) format
 automata_are_asked subcommand options one.Game format asks = absurd asks
 automata_are_asked subcommand options one.Complement format asks = absurd asks
 automata_are_asked subcommand options one.Trim format asks = absurd asks
+automata_are_asked subcommand options (one.Ltl negated) format asks = absurd asks
 automata_are_asked subcommand options (one.Realize controller) format asks = absurd asks
 automata_are_asked subcommand options (one.RealizeByLifting controller) format asks = absurd asks
 automata_are_asked subcommand options one.RealizabilityGame format asks = absurd asks

@@ -10,10 +10,11 @@ use Rattle.omega_cli_command.specs.declared.mistake.Mistake.TheVariants as mista
 use Rattle.omega_cli_command.specs.declared.options.OptionName.TheVariants as name
 use Rattle.omega_cli_command.specs.declared.options.Options.{Options}
 use Rattle.omega_cli_command.specs.declared.subcommand.Subcommand.{Subcommand}
+use Rattle.omega_cli_command.specs.declared.subcommand.Subcommand.TheVariants as sub
 
 -- what is wrong: memory is wanting, or options are. Then an option is faulty, one
 -- lacks another that it needs, two conflict, or one is for another format. A format is missing only if it is not left
--- to a text
+-- to a text, a formula only if it is not that of a file, and a word only if it is not the words of an automaton
 abbrev pub IsMistake : Subcommand → Options → Mistake → Type 0
 IsMistake subcommand options mistake.Unknown = ⊥
 IsMistake subcommand options mistake.Memory = Unit {0}
@@ -22,7 +23,9 @@ IsMistake subcommand options (mistake.OnlyWith option format) =
     IsOfOtherFormat subcommand options option format
 IsMistake subcommand options (mistake.Missing option) =
     (HasOption subcommand option × IsFaulty option options (mistake.Missing option)
-    × (option ≡ name.Format → LeavesFormat subcommand options → ⊥))
+    × (option ≡ name.Format → LeavesFormat subcommand options → ⊥)
+    × (option ≡ name.Formula → subcommand ≡ sub.Satisfies)
+    × (option ≡ name.WordText → subcommand ≡ sub.Accepts))
     ⊎ IsWanting subcommand options option
 IsMistake subcommand options (mistake.Value option text reason) =
     HasOption subcommand option × IsFaulty option options (mistake.Value option text reason)

@@ -1,5 +1,5 @@
 -- What a subcommand asks for that reads one text.
-use Rattle.std.specs.Prelude.{◌≡◌, true, false, Some, None}
+use Rattle.std.specs.Prelude.{◌≡◌, ◌⊎◌, true, false, Some, None}
 use Rattle.omega_cli_command.specs.Formats.{AsksOfEither}
 use Rattle.omega_cli_command.specs.Options.{GivesEmptyLines, GivesFormat, GivesNoDrawn, GivesNoLifting}
 use Rattle.omega_cli_command.specs.Options.{GivesNoSearching, GivesNode, GivesPart, text_of}
@@ -50,6 +50,9 @@ AsksOneText subcommand options one.Complement =
     (subcommand ≡ sub.Complement) × GivesFlag (text_of name.Stream options) false
 AsksOneText subcommand options one.Trim =
     (subcommand ≡ sub.Trim) × GivesFlag (text_of name.Stream options) false
+AsksOneText subcommand options (one.Ltl negated) = (subcommand ≡ sub.Ltl)
+    × GivesFlag (text_of name.Negated options) negated
+    × ((text_of name.Formula options ≡ None) ⊎ (text_of name.File options ≡ None))
 AsksOneText subcommand options (one.Realize controller) =
     (subcommand ≡ sub.Realize) × GivesFlag (text_of name.Lift options) false
     × GivesNoLifting options × GivesFlag (text_of name.AsGame options) false

@@ -44,7 +44,7 @@ IsNumberReason least most text reason.NoFormat = ⊥
 IsNumberReason least most text reason.NoSearcher = ⊥
 IsNumberReason least most text reason.NoTruth = ⊥
 
--- why a text is no value of an option; every text names a file, and may be that of a word
+-- why a text is no value of an option; every text names a file, and may be that of a word or of a formula
 abbrev pub IsReason : OptionName → List ℕ → Reason → Type 0
 IsReason name.Format text why = why ≡ reason.NoFormat
 IsReason name.Player text why = IsNumberReason 0 1 text why
@@ -62,6 +62,8 @@ IsReason name.Names text why = why ≡ reason.NoTruth
 IsReason name.Word text why = why ≡ reason.NoTruth
 IsReason name.WordText text why = ⊥
 IsReason name.ForSome text why = why ≡ reason.NoTruth
+IsReason name.Formula text why = ⊥
+IsReason name.Negated text why = why ≡ reason.NoTruth
 IsReason name.Status text why = why ≡ reason.NoTruth
 IsReason name.With text why = ⊥
 IsReason name.Trim text why = why ≡ reason.NoTruth

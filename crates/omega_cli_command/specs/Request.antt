@@ -12,11 +12,11 @@ use Rattle.omega_cli_command.specs.declared.request.Request.{Request}
 use Rattle.omega_cli_command.specs.declared.request.Request.TheVariants as request
 use Rattle.omega_cli_command.specs.declared.subcommand.Subcommand.{Subcommand}
 
--- the subcommand, with these options, requests this: a task with the input that the operand names, whether games are
--- read leniently, and whether a refusal is written with what it is about
+-- the subcommand, with these options, requests this: a task with the input that the operand names, or that the command
+-- line has itself, whether games are read leniently, and whether a refusal is written with what it is about
 abbrev pub Asks : Subcommand → Options → Request → Type 0
 Asks subcommand options (request.Do task) = AsksReading task.lenient subcommand options task
-    × GivesSource (text_of name.File options) task.source
+    × GivesSource subcommand options task.source
     × GivesLeniency subcommand options task.lenient
     × GivesFlag (text_of name.Verbose options) task.verbose
 Asks subcommand options (request.Help text) = ⊥

@@ -17,10 +17,12 @@ name_of sub.Game = codes "game"
 name_of sub.Accepts = codes "accepts"
 name_of sub.Contained = codes "contained"
 name_of sub.Equal = codes "equal"
+name_of sub.Satisfies = codes "satisfies"
 name_of sub.Meet = codes "meet"
 name_of sub.Join = codes "join"
 name_of sub.Complement = codes "complement"
 name_of sub.Trim = codes "trim"
+name_of sub.Ltl = codes "ltl"
 name_of sub.Realize = codes "realize"
 name_of sub.Draw = codes "draw"
 
@@ -46,11 +48,13 @@ HasOption subcommand name.Automaton = subcommand ≡ sub.Verify
 HasOption subcommand name.Specification = subcommand ≡ sub.Verify
 HasOption subcommand name.CounterStrategy = subcommand ≡ sub.Verify
 HasOption subcommand name.Explain = (subcommand ≡ sub.Verify) ⊎ (subcommand ≡ sub.Accepts)
-    ⊎ (subcommand ≡ sub.Contained) ⊎ (subcommand ≡ sub.Equal)
+    ⊎ (subcommand ≡ sub.Contained) ⊎ (subcommand ≡ sub.Equal) ⊎ (subcommand ≡ sub.Satisfies)
 HasOption subcommand name.Names = (subcommand ≡ sub.Verify) ⊎ (subcommand ≡ sub.Empty)
 HasOption subcommand name.Word = subcommand ≡ sub.Empty
-HasOption subcommand name.WordText = subcommand ≡ sub.Accepts
+HasOption subcommand name.WordText = (subcommand ≡ sub.Accepts) ⊎ (subcommand ≡ sub.Satisfies)
 HasOption subcommand name.ForSome = subcommand ≡ sub.Accepts
+HasOption subcommand name.Formula = (subcommand ≡ sub.Satisfies) ⊎ (subcommand ≡ sub.Ltl)
+HasOption subcommand name.Negated = subcommand ≡ sub.Ltl
 HasOption subcommand name.Status = subcommand ≡ sub.Empty
 HasOption subcommand name.With = (subcommand ≡ sub.Meet) ⊎ (subcommand ≡ sub.Join)
 HasOption subcommand name.Trim = subcommand ≡ sub.Meet

@@ -62,6 +62,11 @@ pub enum OneText {
     Complement,
     /// Writes an automaton without the states that no start reaches and those in which no accepting lasso starts.
     Trim,
+    /// Writes an automaton that accepts the words that satisfy a formula, or those that do not.
+    Ltl {
+        /// Whether it accepts those that do not.
+        negated: bool,
+    },
     /// Says whether an automaton is realizable. Decided by a search whose answer is judged, and by lifting if the
     /// search finds nothing.
     Realize {

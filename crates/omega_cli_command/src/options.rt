@@ -21,6 +21,8 @@ pub enum OptionName {
     WordText,
     /// The flag `--some`.
     ForSome,
+    Formula,
+    Negated,
     Status,
     With,
     Trim,
@@ -65,6 +67,8 @@ impl fmt::Display for OptionName {
             OptionName::Word => "--word",
             OptionName::WordText => "--word <WORD>",
             OptionName::ForSome => "--some",
+            OptionName::Formula => "--formula <FORMULA>",
+            OptionName::Negated => "--negated",
             OptionName::Status => "--status",
             OptionName::With => "--with <FILE>",
             OptionName::Trim => "--trim",
@@ -125,6 +129,10 @@ pub struct Options<'a> {
     pub word_text: Option<&'a str>,
     /// As `search`.
     pub for_some: Option<&'a str>,
+    /// The text of a formula.
+    pub formula: Option<&'a str>,
+    /// As `search`.
+    pub negated: Option<&'a str>,
     /// As `search`.
     pub status: Option<&'a str>,
     /// The name of the file of the other automaton.

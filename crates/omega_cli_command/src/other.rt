@@ -10,8 +10,8 @@ use std::alloc::Global;
 pub enum Other {
     /// The file of this name.
     File(String),
-    /// The command line, which has this text of a word.
-    Word(String),
+    /// The command line, which has this text of a word or of a formula.
+    Given(String),
 }
 
 impl Other {
@@ -26,13 +26,13 @@ impl Other {
         }
     }
 
-    /// Returns this text of a word.
-    pub(crate) fn of_word<'a>(alloc: Global, word: &str) -> Result<Other, Mistake<'a>>
-        ensures given { IfOk result (HasOther (Some word.now)) }
+    /// Returns this text of a word or of a formula.
+    pub(crate) fn given<'a>(alloc: Global, text: &str) -> Result<Other, Mistake<'a>>
+        ensures given { IfOk result (HasOther (Some text.now)) }
         ensures memory { IfErr result (λ found. found ≡ mistake.Memory) }
     {
-        match String::from_str(alloc, word) {
-            Ok(text) => Ok(Other::Word(text)),
+        match String::from_str(alloc, text) {
+            Ok(text) => Ok(Other::Given(text)),
             Err(_) => Err(Mistake::Memory),
         }
     }

@@ -39,7 +39,7 @@ pub fn request_for<'a>(
     let verbose = is_set(OptionName::Verbose, options.verbose)?;
     let lenient = leniency_in(subcommand, options)?;
     let task = task_reading(alloc, subcommand, options, lenient)?;
-    let source = source_in(alloc, options)?;
+    let source = source_in(alloc, subcommand, options)?;
     Ok(Request::Do(Task {
         source,
         lenient,

@@ -8,6 +8,7 @@ mod check;
 mod draw;
 mod empty;
 mod formats;
+mod ltl;
 mod realize;
 mod show;
 mod solve;
@@ -25,12 +26,15 @@ use canon::canon_task;
 use check::check_task;
 use draw::draw_task;
 use empty::empty_task;
+use ltl::ltl_task;
 use realize::realize_task;
 use show::show_task;
 use solve::solve_task;
 use std::alloc::Global;
 use transform::{complement_task, trim_task};
-use two_automata::{accepts_task, contained_task, equal_task, join_task, meet_task};
+use two_automata::{
+    accepts_task, contained_task, equal_task, join_task, meet_task, satisfies_task,
+};
 use verify::verify_task;
 
 /// Returns the task that `subcommand` requests with `options`, or what is wrong with them.
@@ -53,10 +57,12 @@ pub(crate) fn task_for<'a>(
         Subcommand::Accepts => accepts_task(alloc, options),
         Subcommand::Contained => contained_task(alloc, options),
         Subcommand::Equal => equal_task(alloc, options),
+        Subcommand::Satisfies => satisfies_task(alloc, options),
         Subcommand::Meet => meet_task(alloc, options),
         Subcommand::Join => join_task(alloc, options),
         Subcommand::Complement => complement_task(options),
         Subcommand::Trim => trim_task(options),
+        Subcommand::Ltl => ltl_task(options),
         Subcommand::Realize => realize_task(options),
         Subcommand::Draw => draw_task(alloc, options),
     }

@@ -17,7 +17,7 @@ use Rattle.omega_cli_command.specs.declared.command.Command.{Command}
 use Rattle.omega_cli_command.specs.declared.command.Command.TheVariants as command
 use Rattle.omega_cli_command.specs.declared.one_text.OneText.{OneText}
 use Rattle.omega_cli_command.specs.declared.one_text.OneText.TheVariants.{Canon, CanonLeast, CanonPart}
-use Rattle.omega_cli_command.specs.declared.one_text.OneText.TheVariants.{Check, DrawGame, DrawPart}
+use Rattle.omega_cli_command.specs.declared.one_text.OneText.TheVariants.{Check, DrawGame, DrawPart, Ltl}
 use Rattle.omega_cli_command.specs.declared.one_text.OneText.TheVariants.{Search, Show, ShowJson, Solve}
 use Rattle.omega_cli_command.specs.declared.two_texts.TwoTexts.{TwoTexts}
 use Rattle.omega_cli_command.specs.declared.two_texts.TwoTexts.TheVariants as two
@@ -41,6 +41,7 @@ kind_of_one (Solve player from) = kind.Game
 kind_of_one (Search from by effort) = kind.Game
 kind_of_one DrawGame = kind.Game
 kind_of_one (DrawPart from depth) = kind.Game
+kind_of_one (Ltl negated) = kind.Other
 kind_of_one other = kind.Automata
 
 -- what a command reads each of two texts as: an automaton, unless it is named here
@@ -57,6 +58,9 @@ kind_of_two (two.Accepts explain) File = kind.Other
 kind_of_two (two.Accepts explain) Input = kind.Automata
 kind_of_two (two.AcceptsSome explain) File = kind.Other
 kind_of_two (two.AcceptsSome explain) Input = kind.Automata
+kind_of_two (two.Satisfies explain) File = kind.Other
+kind_of_two (two.Satisfies explain) Input = kind.Automata
+kind_of_two (two.SatisfiesWord explain) which = kind.Other
 kind_of_two (two.DrawSolution from depth legend) File = kind.Solution from
 kind_of_two (two.DrawSolution from depth legend) Input = kind.Game
 kind_of_two (two.DrawWalk from depth legend) File = kind.Other

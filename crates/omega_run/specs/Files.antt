@@ -5,7 +5,7 @@ use Rattle.omega_cli_command.specs.declared.command.Command.{Command}
 use Rattle.omega_cli_command.specs.declared.command.Command.TheVariants.{TwoTexts}
 use Rattle.omega_cli_command.specs.declared.other.Other.TheVariants as other
 use Rattle.omega_cli_command.specs.declared.source.Source.{Source}
-use Rattle.omega_cli_command.specs.declared.source.Source.TheVariants.{File, Input}
+use Rattle.omega_cli_command.specs.declared.source.Source.TheVariants.{File, Given, Input}
 use Rattle.omega_cli_command.specs.declared.task.Task.{Task}
 use Rattle.omega_io.specs.declared.reason.Reason.{Reason}
 use Rattle.omega_io.specs.declared.unread.Unread.{Unread}
@@ -16,6 +16,7 @@ use Rattle.omega_io.specs.RefusalLine.{line_of}
 abbrev pub operand_file : Source → Option (List ℕ)
 operand_file (File name) = Some (string_bytes name)
 operand_file Input = None
+operand_file (Given text) = None
 
 -- that of the file that has the other text, if one has it
 abbrev pub other_file : Command → Option (List ℕ)
@@ -47,9 +48,14 @@ RefusesFiles reads refuses task name unread =
     ⊎ ((operand : Option (List ℕ)) × ReadsFile reads (operand_file task.source) operand
     × RefusesFile refuses (other_file task.command) name unread)
 
+-- the text of the operand, or in its place that of the command line, if one of them has the input
+abbrev pub operand_text : Source → Option (List ℕ) → Option (List ℕ)
+operand_text (Given given) text = Some (string_bytes given)
+operand_text source text = text
+
 -- the other text: that of its file, or of the command line
 abbrev pub other_text : Command → Option (List ℕ) → List ℕ
-other_text (TwoTexts two (other.Word word)) text = string_bytes word
+other_text (TwoTexts two (other.Given given)) text = string_bytes given
 other_text command (Some text) = text
 other_text command None = []
 

@@ -20,7 +20,7 @@ use Rattle.omega_io.specs.Failures.{IsTransferRefusal, failures_in}
 use Rattle.omega_io.specs.Reading.{IsRead}
 use Rattle.omega_io.specs.Writing.{WritesBeginning}
 use Rattle.omega_run.specs.Answers.{both_texts}
-use Rattle.omega_run.specs.Files.{ReadsFiles, RefusesFiles, lines_of_file, other_text}
+use Rattle.omega_run.specs.Files.{ReadsFiles, RefusesFiles, lines_of_file, operand_text, other_text}
 use Rattle.omega_run.specs.Formats.{IsFormatOf}
 use Rattle.omega_run.specs.Held.{IsReadSo}
 use Rattle.omega_run.specs.Pieces.{IsRunOnStream}
@@ -77,8 +77,8 @@ IsDoneFromInput task (Stream stream) false other status tells before after =
 IsDoneFromInput task command held other status tells before after =
     IsDoneWithInput task other status tells before after
 
--- the task was done with the text of the operand, if that is a file, up to the first byte past the limit; or with
--- standard input, which is else left alone
+-- the task was done with the text of the operand, if that is a file, or with that of the command line, up to the first
+-- byte past the limit; or with standard input, which is else left alone
 abbrev pub IsDoneFrom : Option (List ℕ) → Task → (other : List ℕ) → ℕ → (List ℕ → Type 0)
     → Streams → Streams → Type 0
 IsDoneFrom (Some operand) task other status tells before after =
@@ -90,7 +90,8 @@ IsDoneFrom None task other status tells before after = IsDoneFromInput task task
 -- the files of the task were read, and it was done; or one of them was refused
 abbrev pub IsDone : Task → ℕ → World → Type 0
 IsDone task status world = ((operand other : Option (List ℕ)) × ReadsFiles world.reads task operand other
-    × IsDoneFrom operand task (other_text task.command other) status world.tells world.before world.after)
+    × IsDoneFrom (operand_text task.source operand) task (other_text task.command other) status
+    world.tells world.before world.after)
     ⊎ IsFileRefused task status world
 
 -- ---- the command line

@@ -1,7 +1,7 @@
 //! The files of a task.
-ghost use Rattle.std.specs.Prelude.{◌≡◌, IfOk, IfErr, option_map};
+ghost use Rattle.std.specs.Prelude.{◌≡◌, IfErr, IfOk, option_map};
 ghost use Rattle.omega_run.specs.Files.{ReadsFile, ReadsFiles, RefusesFile, RefusesFiles};
-ghost use Rattle.omega_run.specs.Files.{operand_file, other_file, other_text};
+ghost use Rattle.omega_run.specs.Files.{operand_file, operand_text, other_file, other_text};
 
 use omega_cli_command::{Command, Other, Source, Task};
 use omega_io::{InputFiles, Unread};
@@ -52,7 +52,7 @@ fn read_operand<'a, F: InputFiles>(
 {
     match source {
         Source::File(name) => Ok(Some(read_named(alloc, name.as_str(), files)?)),
-        Source::Input => Ok(None),
+        Source::Input | Source::Given(_) => Ok(None),
     }
 }
 
@@ -91,12 +91,25 @@ fn read_named<'a, F: InputFiles>(
     }
 }
 
+/// Returns the text of the input if it is not that of standard input: the one that the command line has, or `text`,
+/// which is that of a file.
+pub(crate) fn operand_text<'a>(source: &'a Source, text: &'a Option<Vec<u8>>) -> Option<&'a [u8]>
+    ensures { option_map (λ text. text.now) result
+        ≡ operand_text source.now (option_map (λ text. text.items) text.now) }
+{
+    match (source, text) {
+        (Source::Given(given), _) => Some(given.as_bytes()),
+        (_, Some(text)) => Some(text.as_slice()),
+        _ => None,
+    }
+}
+
 /// Returns the other text of `command`, which is `text` if a file has it.
 pub(crate) fn other_text<'a>(command: &'a Command, text: &'a Option<Vec<u8>>) -> &'a [u8]
     ensures { result.now ≡ other_text command.now (option_map (λ text. text.items) text.now) }
 {
     match (command, text) {
-        (Command::TwoTexts(_, Other::Word(word)), _) => word.as_bytes(),
+        (Command::TwoTexts(_, Other::Given(given)), _) => given.as_bytes(),
         (_, Some(text)) => text.as_slice(),
         _ => b"",
     }

@@ -1,12 +1,12 @@
 ghost use Rattle.std.specs.Prelude.{◌≡◌, ◌-◌, ◌^◌, ◌<◌, ◌≤◌, IfOk, None, option_map};
 ghost use Rattle.omega_cli_command.specs.Request.{IsRunnable};
 ghost use Rattle.omega_solve.specs.Limits.{most_lifts};
-ghost use Rattle.omega_run.specs.Files.{other_text};
+ghost use Rattle.omega_run.specs.Files.{operand_text, other_text};
 ghost use Rattle.omega_run.specs.Obey.{IsDone, IsDoneFrom, IsObeyed, Prints};
 ghost use Rattle.omega_run.specs.Pieces.{IsRunOnStream};
 ghost use Rattle.omega_run.specs.World.{streams_of, tells_of, world_of, written_to};
 
-use crate::files::{FileTexts, other_text, read_files};
+use crate::files::{FileTexts, operand_text, other_text, read_files};
 use crate::held::{run_texts, within_limit};
 use crate::reporting::{report, report_file};
 use crate::stream::answer_stream;
@@ -82,7 +82,8 @@ fn do_task<F: InputFiles, R: Input, W: Output, E: Output>(
     }
 }
 
-/// Does a task after its files were read, with standard input if the operand is no file.
+/// Does a task after its files were read, with standard input if neither the operand nor the command line has the text
+/// of the input.
 fn do_with_files<R: Input, W: Output, E: Output>(
     alloc: Global,
     task: &Task,
@@ -95,16 +96,17 @@ fn do_with_files<R: Input, W: Output, E: Output>(
     requires reads { R.failed input.old < 2 ^ 64 - 1 }
     requires writes { W.failed output.old < 2 ^ 64 - 1 }
     requires tells { E.failed errors.old < 2 ^ 64 - 1 }
-    ensures { IsDoneFrom (option_map (λ text. text.items) read.now.operand) task.now
+    ensures { IsDoneFrom
+        (operand_text task.now.source (option_map (λ text. text.items) read.now.operand)) task.now
         (other_text task.now.command (option_map (λ text. text.items) read.now.other)) result
         (tells_of E.Output errors.old errors.new)
         (streams_of R.Input W.Output input.old output.old)
         (streams_of R.Input W.Output input.new output.new) }
 {
     let other = other_text(&task.command, &read.other);
-    match &read.operand {
+    match operand_text(&task.source, &read.operand) {
         Some(operand) => {
-            let input = within_limit(operand.as_slice());
+            let input = within_limit(operand);
             run_texts(alloc, task, Texts { other, input }, output, errors)
         }
         None => do_with_input(alloc, task, other, input, output, errors),

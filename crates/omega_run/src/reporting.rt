@@ -117,6 +117,8 @@ fn names_of(command: TwoTexts) -> (&'static str, &'static str)
         TwoTexts::VerifyController { .. } => ("specification", "controller"),
         TwoTexts::VerifyCounterStrategy { .. } => ("specification", "counter-strategy"),
         TwoTexts::Accepts { .. } | TwoTexts::AcceptsSome { .. } => ("word", "automaton"),
+        TwoTexts::Satisfies { .. } => ("formula", "automaton"),
+        TwoTexts::SatisfiesWord { .. } => ("formula", "word"),
         TwoTexts::Meet { .. }
         | TwoTexts::Join
         | TwoTexts::Contained { .. }

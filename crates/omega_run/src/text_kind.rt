@@ -19,7 +19,7 @@ pub(crate) enum TextKind {
     Winners,
     /// One automaton, or a stream of automata.
     Automata,
-    /// A lasso, a word, or a walk; or no text.
+    /// A lasso, a word, a formula, or a walk; or no text.
     Other,
 }
 
@@ -53,6 +53,7 @@ fn kind_of_one(command: OneText) -> TextKind
         | OneText::Search { .. }
         | OneText::DrawGame
         | OneText::DrawPart { .. } => TextKind::Game,
+        OneText::Ltl { .. } => TextKind::Other,
         _ => TextKind::Automata,
     }
 }
@@ -68,9 +69,10 @@ fn kinds_of_two(command: TwoTexts) -> (TextKind, TextKind)
         }
         TwoTexts::VerifyWinners { .. } => (TextKind::Game, TextKind::Winners),
         TwoTexts::VerifyLasso { .. } => (TextKind::Automata, TextKind::Other),
-        TwoTexts::Accepts { .. } | TwoTexts::AcceptsSome { .. } => {
+        TwoTexts::Accepts { .. } | TwoTexts::AcceptsSome { .. } | TwoTexts::Satisfies { .. } => {
             (TextKind::Other, TextKind::Automata)
         }
+        TwoTexts::SatisfiesWord { .. } => (TextKind::Other, TextKind::Other),
         TwoTexts::DrawSolution { from, .. } => (TextKind::Solution { from }, TextKind::Game),
         TwoTexts::DrawWalk { .. } => (TextKind::Other, TextKind::Game),
         _ => (TextKind::Automata, TextKind::Automata),

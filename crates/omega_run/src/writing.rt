@@ -21,8 +21,8 @@ use omega_solve::budget::{LIFTS_BETWEEN_REPORTS, NoObserver};
 use std::alloc::Global;
 
 /// Makes the whole answer of a command to its texts in memory, and then writes it. Lines of progress, if the task asks
-/// for them, go to standard error; if one cannot be written, no more are. If a game is searched, `searching` says how, with
-/// the turns of the searchers.
+/// for them, go to standard error; if one cannot be written, no more are. If a game is searched, `searching` says how,
+/// with the turns of the searchers.
 pub(crate) fn write_answer<W: Output, E: Output>(
     alloc: Global,
     command: &Command,

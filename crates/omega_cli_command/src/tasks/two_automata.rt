@@ -1,4 +1,4 @@
-//! The tasks about two automata, or about an automaton and a word.
+//! The tasks about two automata, or about an automaton and a word or a formula.
 ghost use Rattle.std.specs.Prelude.{IfErr, IfOk};
 ghost use Rattle.omega_cli_command.specs.Mistakes.{IsMistake};
 ghost use Rattle.omega_cli_command.specs.Task.{AsksFor};
@@ -42,7 +42,7 @@ pub(crate) fn accepts_task<'a>(alloc: Global, options: &Options<'a>) -> Result<T
     let Some(word) = options.word_text else {
         return Err(Mistake::Missing(OptionName::WordText));
     };
-    let other = Other::of_word(alloc, word)?;
+    let other = Other::given(alloc, word)?;
     if some {
         Ok(Task::of(Command::TwoTexts(TwoTexts::AcceptsSome { explain }, other)))
     } else {
@@ -77,4 +77,24 @@ pub(crate) fn equal_task<'a>(alloc: Global, options: &Options<'a>) -> Result<Tas
         return Err(Mistake::Missing(OptionName::To));
     };
     Task::with_file(alloc, TwoTexts::Equal { explain }, name)
+}
+
+/// Returns the task that `satisfies` requests with `options`, or what is wrong with them.
+pub(crate) fn satisfies_task<'a>(alloc: Global, options: &Options<'a>) -> Result<Task, Mistake<'a>>
+    ensures asked { IfOk result (AsksFor sub.Satisfies options.now) }
+    ensures mistaken { IfErr result (IsMistake sub.Satisfies options.now) }
+{
+    let explain = is_set(OptionName::Explain, options.explain)?;
+    let Some(formula) = options.formula else {
+        return Err(Mistake::Missing(OptionName::Formula));
+    };
+    if options.word_text.is_some() && options.file.is_some() {
+        return Err(Mistake::Conflict(OptionName::WordText, OptionName::File));
+    }
+    let other = Other::given(alloc, formula)?;
+    if options.word_text.is_some() {
+        Ok(Task::of(Command::TwoTexts(TwoTexts::SatisfiesWord { explain }, other)))
+    } else {
+        Ok(Task::of(Command::TwoTexts(TwoTexts::Satisfies { explain }, other)))
+    }
 }

@@ -2,9 +2,10 @@
 use Rattle.std.specs.Prelude.{List, [], ◌∷◌, true, codes}
 use Rattle.clap.specs.Simple.{new_shape}
 use Rattle.clap.specs.Words.{App, Rule, Shape, Text, with_rule, with_subcommand}
-use Rattle.omega_cli.specs.Program.{accepts, canon, check, complement, contained, draw, empty, equal, flag}
-use Rattle.omega_cli.specs.Program.{game, join, lettered, meet, named, operand, optional, realize, required}
-use Rattle.omega_cli.specs.Program.{required_as, show, solve, trim, verify}
+use Rattle.omega_cli.specs.Program.{accepts, canon, check, complement, contained, draw, empty, equal}
+use Rattle.omega_cli.specs.Program.{flag, game, join, lettered, ltl, meet, named, operand, optional}
+use Rattle.omega_cli.specs.Program.{optional_as, optional_lettered, realize, required, required_as}
+use Rattle.omega_cli.specs.Program.{required_lettered, satisfies, show, solve, trim, verify}
 use Rattle.omega_cli.specs.declared.options.OptionHelp.{OptionHelp}
 use Rattle.omega_cli.specs.declared.options.Value.{Value}
 use Rattle.omega_cli.specs.declared.options.Value.TheVariants as value
@@ -17,7 +18,10 @@ rule_by value.None name = flag name
 rule_by (value.Letter letter) name = lettered letter name
 rule_by (value.Long shown) name = named shown.now name
 rule_by (value.Optional shown) name = optional name
+rule_by (value.OptionalLettered letter shown) name = optional_lettered letter name
+rule_by (value.OptionalAs long shown) name = optional_as long.now name
 rule_by (value.Required shown) name = required name
+rule_by (value.RequiredLettered letter shown) name = required_lettered letter name
 rule_by (value.RequiredAs long shown) name = required_as long.now name
 rule_by (value.Operand shown) name = operand name
 
@@ -37,10 +41,12 @@ shape_for subcommand.Game = game
 shape_for subcommand.Accepts = accepts
 shape_for subcommand.Contained = contained
 shape_for subcommand.Equal = equal
+shape_for subcommand.Satisfies = satisfies
 shape_for subcommand.Meet = meet
 shape_for subcommand.Join = join
 shape_for subcommand.Complement = complement
 shape_for subcommand.Trim = trim
+shape_for subcommand.Ltl = ltl
 shape_for subcommand.Realize = realize
 shape_for subcommand.Draw = draw
 

@@ -1,0 +1,24 @@
+//! The task that `ltl` requests.
+ghost use Rattle.std.specs.Prelude.{IfErr, IfOk};
+ghost use Rattle.omega_cli_command.specs.Mistakes.{IsMistake};
+ghost use Rattle.omega_cli_command.specs.Task.{AsksFor};
+ghost use Rattle.omega_cli_command.specs.declared.subcommand.Subcommand.TheVariants as sub;
+
+use crate::command::Command;
+use crate::mistake::Mistake;
+use crate::one_text::OneText;
+use crate::options::{OptionName, Options};
+use crate::task::Task;
+use crate::values::is_set;
+
+/// Returns the task that `ltl` requests with `options`, or what is wrong with them.
+pub(crate) fn ltl_task<'a>(options: &Options<'a>) -> Result<Task, Mistake<'a>>
+    ensures asked { IfOk result (AsksFor sub.Ltl options.now) }
+    ensures mistaken { IfErr result (IsMistake sub.Ltl options.now) }
+{
+    let negated = is_set(OptionName::Negated, options.negated)?;
+    if options.formula.is_some() && options.file.is_some() {
+        return Err(Mistake::Conflict(OptionName::Formula, OptionName::File));
+    }
+    Ok(Task::of(Command::OneText(OneText::Ltl { negated })))
+}
