@@ -63,6 +63,8 @@ EXACT = {
 CALLS = {
     "`decide_containment` of `omega_lang_inclusion`": ("omega_lang_inclusion.specs.Containing", "IsContainment"),
     "`decide_equality` of `omega_lang_inclusion`": ("omega_lang_inclusion.specs.Equality", "IsEquality"),
+    "`translate` of `omega_ltl_translation`": ("omega_ltl_translation.specs.Translation", "IsTranslation"),
+    "`satisfies` of `omega_ltl_satisfaction`": ("omega_ltl_satisfaction.specs.Satisfaction", "IsSatisfaction"),
     "`realize` of `omega_synth_realize`": ("omega_synth_realize.specs.Realizing", "IsRealizability"),
     "`judge` of `omega_synth_check`": ("omega_synth_check.specs.Judging", "IsJudgement"),
     "`judge_counter_strategy` of `omega_synth_check`": ("omega_synth_check.specs.CounterJudging", "IsCounterJudgement"),
@@ -97,11 +99,14 @@ COMMANDS = {
     "contained": ("Contained",),
     "contained --stream": ("ContainedStream",),
     "equal": ("Equal",),
+    "satisfies": ("Satisfies",),
+    "satisfies --word": ("SatisfiesWord",),
     "meet": ("Meet false",),
     "meet --trim": ("Meet true",),
     "join": ("Join",),
     "complement": ("AnswersOneText: Complement",),
     "complement --stream": ("AnswersStream: Complement",),
+    "ltl": ("Ltl",),
     "trim": ("AnswersOneText: Trim",),
     "trim --stream": ("AnswersStream: Trim",),
     "realize": ("Realize false",),
@@ -116,7 +121,8 @@ COMMANDS = {
 # The exports of the library for C, each with its file.
 EXPORTS = {"omega_solve": "solving", "omega_verify": "verifying", "omega_bound": "bounding", "omega_empty": "emptiness",
            "omega_meet": "meeting", "omega_complement": "complementing", "omega_contained": "containing",
-           "omega_equal": "containing", "omega_realize": "realizing", "omega_run": "running"}
+           "omega_equal": "containing", "omega_realize": "realizing", "omega_formula": "formulas",
+           "omega_ltl": "formulas", "omega_satisfies": "formulas", "omega_run": "running"}
 
 # The forms of the lines that begin at the left edge, beside comments: what is used, by names or by a short name of its
 # module; what a library hands on, and its parts; a declaration; a case of a definition, which begins with its name; and
@@ -169,9 +175,9 @@ program.
 
 The row of containment is what the answers of `complement`, `meet` and `empty` say of two texts, one after the other. It
 counts what texts, runs and words are. What a product and a complement are is not among it, since the laws say what the
-answers mean. The rows of the library's calls `contained`, `equal`, `realize` and `judge` are their answers alone. Their
-refusals are not counted: those of the first two are those of `complement`, `product` and `lasso`, and rest on what
-these are.
+answers mean. The rows of the library's calls `contained`, `equal`, `translate`, `satisfies`, `realize` and `judge` are
+their answers alone. Their refusals are not counted: those of the first two are those of `complement`, `product` and
+`lasso`, and rest on what these are.
 
 The row of realizability is what a controller and a counter-strategy are good for: the system realizes the automaton,
 or is refuted. That the one or the other is there is what `realize` answers, and the row of that call counts what the

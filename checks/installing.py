@@ -42,12 +42,18 @@ def outputs() -> list[bytes]:
     return [text.encode() for text in blocks_of(page(), "text")]
 
 
+def declared_names() -> set[str]:
+    """The functions that the header declares."""
+    with open(os.path.join(ROOT, "include", "omega.h")) as file:
+        return set(re.findall(r"^\w+ (omega_\w+)\(", file.read(), re.MULTILINE))
+
+
 def exported_fault(words: list[str]) -> Fault:
-    """The names that a library shows and that are no exports, or nothing."""
+    """The names that only the library shows, or only the header, or nothing."""
     ran = subprocess.run(words, capture_output=True, text=True, check=True)
-    names = re.findall(r"^[0-9a-f]+ \w (\S+)$", ran.stdout, re.MULTILINE)
-    others = [name for name in names if not name.startswith("omega_")]
-    return f"it shows {others[:3]}" if others else None if len(names) == 12 else f"it shows {names}"
+    shown = set(re.findall(r"^[0-9a-f]+ \w (\S+)$", ran.stdout, re.MULTILINE))
+    others, missing = sorted(shown - declared_names()), sorted(declared_names() - shown)
+    return f"it shows {others[:3]}" if others else f"it lacks {missing}" if missing else None
 
 
 def name_fault(file: str) -> Fault:

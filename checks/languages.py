@@ -120,6 +120,13 @@ def refusal_checks(omega: Any) -> Cases:
         ("a choice of the first", "equal", [choice, good], [0, verdict], (56, 1, 1)),
         ("universal branching", "meet", [branching, good], [], (41, None, None)),
         ("no parity", "realize", [UNKIND.encode()], [verdict], (40, 1, None)),
+        ("a formula", "formula", [b"a & & b"], [], (3, 1, 4)),
+        ("a formula to translate", "ltl", [b"(a"], [0], (3, 1, 2)),
+        ("a formula that is too deep", "formula", [b"!" * 256 + b"a"], [], (32, 1, None)),
+        ("too many names", "ltl", [b"|".join(b"p%d" % at for at in range(65))], [0], (55, 1, None)),
+        ("the automaton beside a formula", "satisfies", [broken, b"a"], [0, verdict], (1, 1, 8)),
+        ("the formula beside an automaton", "satisfies", [good, b"a b"], [0, verdict], (3, 2, 2)),
+        ("branching beside a formula", "satisfies", [branching, b"a"], [0, verdict], (41, None, None)),
     ]
     for label, call, texts, more, wanted in refusals:
         yield f"{call}: {label}", partial(refusal_fault, omega, partial(given, call, texts, *more), wanted)
@@ -168,8 +175,53 @@ def object_checks(omega: Any) -> Cases:
         yield "a name that there is not", None
 
 
+def formula_fault(omega: Any, text: bytes) -> Fault:
+    """What is wrong with the answers on a formula, byte by byte as the program gives them, or nothing."""
+    verdict = ctypes.c_uint32()
+    questions: list[tuple[str, list[bytes], list[Any], list[str], bytes]] = [
+        ("ltl", [text], [0], ["ltl"], text),
+        ("ltl", [text], [1], ["ltl", "--negated"], text),
+        ("satisfies", [OFTEN.encode(), text], [1, verdict], ["satisfies", "--explain", "-f", text.decode()],
+         OFTEN.encode()),
+    ]
+    for call, texts, more, words, input in questions:
+        came, wanted = answer_of(omega, call, texts, *more), told_by(omega, words, input)
+        if came != wanted:
+            return f"{call}: {came[0]} {shown(came[1])} for {wanted[0]} {shown(wanted[1])}"
+    return None
+
+
+def formula_checks(omega: Any) -> Cases:
+    """Formulas of the package, by texts that are worked out by hand."""
+    rule = omega.Formula("[](a=>X<>b)")
+    yield "the canonical text", differs(str(rule), "G(a -> X F b)")
+    yield "a formula is its canonical text", differs(rule == omega.Formula("G (a -> X(F b))"), True)
+    yield "other texts are others", differs(rule == omega.Formula("G(X F b | !a)"), False)
+    yield "a negation", differs(str(~rule), "!G(a -> X F b)")
+    yield "a negation of two operands", differs(str(~omega.Formula("a U b")), "!(a U b)")
+    yield "a conjunction and a disjunction", differs(str(rule & omega.Formula("c") | rule),
+                                                     "(G(a -> X F b) & c) | G(a -> X F b)")
+    yield "names in quotes", differs(omega.Formula('F"a b"').automaton().propositions, ["a b"])
+    often, at_last = omega.Automaton.parse(OFTEN), omega.Automaton.parse(AT_LAST)
+    yield "again and again", differs(often.satisfies("G F a"), True)
+    yield "the same as a formula", differs(often.satisfies(omega.Formula("GFa")), True)
+    yield "not at last for ever", differs(often.satisfies("F G a"), False)
+    yield "nothing speaks against it", differs(at_last.violation("G F a"), None)
+    found = often.violation("F G a")
+    yield "the reason is a lasso of the automaton", differs(often.accepts(found), True)
+    yield "its letters are as many as its edges", differs(len(found.letters), len(found.stem) + len(found.cycle))
+    made = omega.Formula("F G a").automaton()
+    yield "the automaton of a formula satisfies it", differs(made.satisfies("F G a") and not made.empty(), True)
+    yield "and it is in another of it", differs(made.contained_in(often), True)
+    negated = omega.Formula("F G a").automaton(negated=True)
+    yield "that of the negation does not", differs(negated.satisfies("F G a"), False)
+    for text in (b"a U b", b"G(a -> F b)", b"!(a W b) xor X a", b"(a", b"", b"a M (b R c)", b'F"x\\"y"'):
+        yield f"the formula {text!r}", partial(formula_fault, omega, text)
+
+
 def language_checks(omega: Any) -> Cases:
     yield from object_checks(omega)
+    yield from formula_checks(omega)
     yield from refusal_checks(omega)
     yield from place_checks(omega)
     yield from random_checks(omega)

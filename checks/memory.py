@@ -108,6 +108,14 @@ RUNS: list[Run] = [
     *(([*words, "--explain", option], one, other) for words, option, one, other in
       ((["contained"], "--in", TWO_SETS, BUCHI), (["contained"], "--in", BUCHI, TWO_SETS),
        (["equal"], "--to", BUCHI, TWO_SETS))),
+    *((["ltl", *more, "-f", text], b"", None) for more in (NONE, ["--negated"])
+      for text in ("a U b", 'GF"a b" & !(c <-> X c)')),
+    *((["ltl", "-v"], text, None) for text in (b"a W b", b"a U", b"!" * 256 + b"a")),
+    (["ltl"], b"", b"F G a"),
+    (["ltl", "-f", "a", "b"], b"", None),
+    *((["satisfies", *more, "-f", formula], b"", text) for more in (NONE, ["--explain"])
+      for formula, text in (("F a", BUCHI), ("G(a -> F !a)", OFTEN), ('b R "c"', WRITTEN))),
+    *((["satisfies", "-v", "-f", formula], text, None) for formula, text in (("a &", BUCHI), ("a", b"HOA: v1"))),
     *((["realize", *more], text, None) for text in (ARBITER, SERVANT, GOALS, ARBITER.replace(b"AP: 1 ", b"AP: 1 1 "))
       for more in (NONE, ["--controller"], ["--game"], ["--lift"], ["--lift", "--controller"],
                    ["--lift", "--budget", "0"])),

@@ -22,6 +22,9 @@ OFFERED = [
     (["omega", "solve", "--pl"], "--player"),
     (["omega", "solve", "--player", ""], "0 1"),
     (["omega", "help", "em"], "empty"),
+    (["omega", "satisfies", "--fo"], "--formula"),
+    (["omega", "satisfies", "-f", ""], ""),
+    (["omega", "verify", "--co"], "--counter-strategy"),
 ]
 
 

@@ -1,7 +1,7 @@
 """What the pages say: each command of the README, CONTRIBUTING.md, `docs/`, the manual and the help writes what stands
 below it. Pictures show what a command draws. Links lead to files, examples of `docs/library.md` are proved, the version
 and the toolchain are those named, manual and help name the same, `docs/believe.md`, the tables of `docs/map.md` and
-this list are what the sources make, comments have at most 124 columns.
+this list are what the sources make, comments have at most 120 columns.
 
 Commands that need `dot` or `parallel` are passed over where these are not installed. What is drawn for `dot` is compared
 with the picture of that name in docs/pictures/ in any case, and each picture is made on some page. The README links

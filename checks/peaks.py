@@ -1,6 +1,6 @@
-"""The program's memory at its peak: at most 8 bytes a byte of text, and 12 MB. Tried are the longest texts of one token
-again and again; a million of each sign, of atoms and of comments in or before a label; and bodies of some megabytes,
-with labels, with marks of 120 sets, and without labels.
+"""The program's memory at its peak: at most 8 bytes a byte of text, and 12 MB; of formulas, whose reader keeps each
+operator that waits for an operand, at most 24. Tried are the longest texts of one token again and again; a million of each sign, of atoms and of comments in or before a label; and bodies of
+some megabytes, with labels, with marks of 120 sets, and without labels.
 
 There is a text of each kind of token.
 """
@@ -29,7 +29,7 @@ print(json.dumps([os.waitstatus_to_exitcode(status), used.ru_maxrss * 1024, wrot
 """
 
 
-def peak_fault(words: list[str], text: bytes, wanted: str) -> Fault:
+def peak_fault(words: list[str], text: bytes, wanted: str, bytes_each: int = 8) -> Fault:
     """Runs the program on a text. What differs from the text wanted on its outputs, or how far its memory went."""
     with tempfile.TemporaryFile() as file:
         file.write(text)
@@ -39,7 +39,7 @@ def peak_fault(words: list[str], text: bytes, wanted: str) -> Fault:
     _, peak, wrote = json.loads(run.stdout)
     if wrote != wanted:
         return f"{shown(wrote.encode())} for {shown(wanted.encode())}"
-    most = 8 * len(text) + 12_000_000
+    most = bytes_each * len(text) + 12_000_000
     return None if peak <= most else f"{peak} bytes of memory for {len(text)} bytes of text, and {most} at most"
 
 
@@ -59,6 +59,15 @@ def tokens_alone() -> Iterator[tuple[list[str], bytes, str]]:
         yield CHECK_GAME, token, "3 Syntax at 0"
     yield CHECK_GAME, b"0 ", "3 Syntax at 8"
     yield CHECK_GAME, b"parity ", "3 Syntax at 7"
+
+
+def formulas_alone() -> Iterator[tuple[bytes, str]]:
+    """Texts of one part of a formula again and again, with the line of their refusal."""
+    for part in (b"(", b"!", b"X", b"() ", b"a U ", b"a&", b"1->", b"!(", b'"a"W'):
+        yield part, f"3 Syntax at {len(alone(part))}"
+    for part, place in ((b")", 0), (b"& ", 0), (b"a ", 2), (b"1", 1), (b'"" ', 3), (b"a) ", 1)):
+        yield part, f"3 Syntax at {place}"
+    yield b"$", "1 Lex at 0"
 
 
 def labelled_body(states: int, source: random.Random) -> Iterator[bytes]:
@@ -104,6 +113,8 @@ def bodies() -> Iterator[tuple[str, bytes]]:
 def peak_checks() -> Cases:
     for words, token, line in tokens_alone():
         yield f"{words[-1]} of {token.decode()}alone", partial(peak_fault, words, alone(token), f"omega: {line}\n")
+    for token, line in formulas_alone():
+        yield f"ltl of {token.decode()}alone", partial(peak_fault, ["ltl"], alone(token), f"omega: {line}\n", 24)
     for label, text, refusal in huge_texts():
         yield label, partial(peak_fault, CHECK, text, "accepted\n" if refusal is None else f"omega: {refusal}\n")
     for label, text in bodies():

@@ -48,6 +48,16 @@ def labels(depth: int) -> Iterator[tuple[str, str]]:
         ")" * (depth // 3))
 
 
+def formulas(depth: int) -> Iterator[tuple[str, str]]:
+    """Formulas of linear temporal logic that are as deep."""
+    yield "negations", nested(depth - 1, "!", "", "p0")
+    yield "X", nested(depth - 1, "X", "", "p0")
+    yield "G", nested(depth - 1, "G", "", "p0")
+    yield "conjunctions", nested(depth - 1, "p0&(", ")", "p1")
+    yield "disjunctions on the left", nested(depth - 1, "(", ")|p0", "p1")
+    yield "implications", nested(depth - 1, "p0->", "", "p1")
+
+
 def texts(depth: int) -> Iterator[tuple[str, str]]:
     """Automata with such labels, and with such an acceptance."""
     buchi = "acc-name: Buchi " + CONTROL
@@ -93,6 +103,12 @@ def stack_checks(program: str) -> Cases:
         for words in calls():
             label = f"{KIBIBYTES} KiB of stack for {' '.join(words)} on {name}, {DEEPEST} deep"
             yield label, partial(stack_fault, program, KIBIBYTES, words, text)
+    for name, formula in formulas(DEEPEST):
+        automaton = AUTOMATON % ("acc-name: Buchi ", "1 Inf(0)", "0")
+        for words, text in ((["ltl"], formula), (["ltl", "--negated"], formula),
+                            (["satisfies", "--explain", "-f", formula], automaton)):
+            label = f"{KIBIBYTES} KiB of stack for {words[0]} on {name}, {DEEPEST} deep"
+            yield label, partial(stack_fault, program, KIBIBYTES, ["run", *words], text)
     for command in ("solve --search", "solve --budget 100000", "canon --format pg", "check --format pg",
                     "show --format pg", "draw --format pg", "solve --search --by zielonka -v",
                     "solve --search --by tangles -v"):

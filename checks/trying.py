@@ -24,6 +24,7 @@ LONG = 900
 NOTE = b"try: not proved; make proves and builds omega\n"
 GAME = b"parity 2; 0 0 0 1,2; 1 1 1 0; 2 2 1 0;"
 CANONICAL = b"parity 2;\n0 0 0 1,2;\n1 1 1 0;\n2 2 1 0;\n"
+FORMULA = b"game U 0"
 RIGHT, WRONG = b"paritysol 2; 0 0 2; 1 0; 2 0;", b"paritysol 2; 0 0 1; 1 0; 2 0;"
 # Calls the program as the toolchain does: in a folder that has the files that it was given, and some of its own,
 # without environment, on a file as standard input.
@@ -73,7 +74,8 @@ class Room:
     def __init__(self, folder: str) -> None:
         self.files, self.left, self.tools = (os.path.join(folder, name) for name in ("files", "left", "tools"))
         os.makedirs(self.left)
-        for name, held in (("game.pg", GAME), ("deep/right", RIGHT), ("a=b", WRONG), ("0", GAME), ("-game", GAME)):
+        for name, held in (("game.pg", GAME), ("deep/right", RIGHT), ("a=b", WRONG), ("0", GAME), ("-game", GAME),
+                           ("formula", FORMULA)):
             write(os.path.join(self.files, name), held)
         write(os.path.join(self.tools, "rt"), FRONT.encode(), 0o755)
         os.symlink(sys.executable, os.path.join(self.tools, "python3"))
@@ -111,6 +113,8 @@ def same_checks(room: Room) -> Iterator[Check]:
         ["verify", "--game", there, "deep/right"], ["verify", "--game", "-", "a=b"], ["verify", "--game"],
         ["verify", "--game", "--explain"], ["check", "--format", "pg", "/dev/null"], ["help", "solve"],
         ["solve", "--help"], ["--version"], ["frob", "game.pg"], [],
+        ["ltl", "-f", "game"], ["ltl", "-fgame.pg"], ["ltl", "--formula=a", "game.pg"], ["ltl", "formula"], ["ltl"],
+        ["satisfies", "-f", "0", "game.pg"], ["satisfies", "--formula", "game.pg"], ["satisfies", "-f"],
     ]
     for words in lines:
         came = room.ran(words, GAME)
@@ -141,9 +145,11 @@ def stop_checks(room: Room) -> Iterator[Check]:
     start.send_signal(signal.SIGTERM)
     start.communicate(timeout=SECONDS)
     yield "interrupted", None if start.returncode == 130 and os.path.exists(stopped) else f"{start.returncode}"
-    with subprocess.Popen([TRY, "solve", "game.pg"], env=room.environment(path), cwd=room.files, stdin=subprocess.PIPE,
-                          stdout=subprocess.PIPE, stderr=subprocess.PIPE) as silent:
-        yield "a silent standard input", None if silent.wait(SECONDS) == 0 else f"{silent.returncode}"
+    for words in (["solve", "game.pg"], ["ltl", "-f", "a"], ["ltl", "--formula=a"]):
+        with subprocess.Popen([TRY, *words], env=room.environment(path), cwd=room.files, stdin=subprocess.PIPE,
+                              stdout=subprocess.PIPE, stderr=subprocess.PIPE) as silent:
+            yield f"a silent standard input of {' '.join(words)}", None if silent.wait(SECONDS) == 0 else (
+                f"{silent.returncode}")
 
 
 def script() -> ModuleType:
