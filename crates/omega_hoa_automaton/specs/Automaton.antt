@@ -1,6 +1,7 @@
 -- Omega-automata as values: their parts, their edges, and what each automaton keeps (HOA v1;
 -- docs/formats.md, automata).
-use Rattle.std.specs.Prelude.{◌≡◌, ℕ, ◌+◌, ◌<◌, ◌≤◌, Bool, false, ◌||◌, List, [], ◌∷◌, ◌++◌, length}
+use Rattle.std.specs.Prelude.{◌≡◌, ◌==◌, ℕ, ◌+◌, ◌<◌, ◌≤◌, Bool, false, ◌||◌, if◌then◌else◌}
+use Rattle.std.specs.Prelude.{List, [], ◌∷◌, ◌++◌, length}
 use Rattle.std.specs.Prelude.{map, sum_by, nat_eq, Option, None, Some, All, IfSome, slice_get}
 use Rattle.std.specs.List.{flat_map, list_any}
 use Rattle.std.specs.List.Sorted.{IsStrictlyIncreasing}
@@ -50,6 +51,12 @@ edge_count a = length (edges_of a)
 -- the edge of a number, or none if the number is not below the count of edges
 abbrev pub edge_at : Description → ℕ → Option BodyEdge
 edge_at a number = slice_get (edges_of a) number
+
+-- how many edges the body has before those of the first state with a number
+abbrev pub edges_before : List State → ℕ → ℕ
+edges_before [] number = 0
+edges_before (state ∷ states) number =
+    if state.number == number then 0 else length state.edges + edges_before states number
 
 -- whether some item of a list is the same as an earlier one
 abbrev pub has_repeat : {X : Type 0} → (X → X → Bool) → List X → Bool

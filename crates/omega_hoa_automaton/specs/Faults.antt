@@ -1,6 +1,6 @@
 -- When each meaning fault of an automaton text applies, each by itself, and which one the text has (docs/formats.md,
 -- meaning of an automaton text).
-use Rattle.std.specs.Prelude.{ℕ, ◌+◌, ◌^◌, Bool, false, true, not, ◌&&◌, ◌||◌, ◌==◌, nat_lt, nat_le, nat_eq}
+use Rattle.std.specs.Prelude.{◌≡◌, ℕ, ◌+◌, ◌^◌, Bool, false, true, not, ◌&&◌, ◌||◌, ◌==◌, nat_lt, nat_le, nat_eq}
 use Rattle.std.specs.Prelude.{List, [], ◌∷◌, length, map, sum_by, count_by, find, max, min, Option, Some}
 use Rattle.std.specs.Prelude.{None, is_some, is_none, option_map, option_and_then, unwrap_or, codes}
 use Rattle.std.specs.List.{filter_map, list_all, list_any}
@@ -273,3 +273,7 @@ faults = Version ∷ RepeatedHeader ∷ MissingAcceptance ∷ UnknownHeader ∷ 
 -- the fault of an automaton text: the one with the least number that applies, or none
 abbrev pub automaton_fault_of : RawAutomaton → Option AutomatonFault
 automaton_fault_of raw = find (applies raw) faults
+
+-- a fault applies: the automaton, as it is written, breaks a limit or a rule of automata
+abbrev pub BreaksLimit : RawAutomaton → Type 0
+BreaksLimit raw = (fault : AutomatonFault) × (automaton_fault_of raw ≡ Some fault)

@@ -10,3 +10,4 @@ pub mod Faults
 pub mod Meaning
 pub mod Laws
 pub mod private
+pub mod Written

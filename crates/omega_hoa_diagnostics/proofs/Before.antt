@@ -8,7 +8,7 @@ use Rattle.omega_hoa_automaton.specs.Automaton.{BodyEdge, Description, edge_coun
 use Rattle.omega_hoa_automaton.specs.declared.edge.Edge.{Edge}
 use Rattle.omega_hoa_automaton.specs.declared.state.State.{State}
 use Rattle.omega_hoa_edges.specs.AutomatonLabels.{labels_at, labels_of, state_among, state_at, undefined}
-use Rattle.omega_hoa_diagnostics.specs.Choices.{edges_before}
+use Rattle.omega_hoa_automaton.specs.Automaton.{edges_before}
 
 -- the states before an index have another number, and so many edges
 pub record IsBefore (a : Description) (number at before : ℕ) : Type 0 where

@@ -6,7 +6,8 @@ use Rattle.omega_hoa_automaton.specs.Automaton.{Description}
 use Rattle.omega_hoa_edges.specs.Determinism.{AreExclusiveBelow}
 use Rattle.omega_hoa_edges.specs.AutomatonLabels.{labels_at}
 use Rattle.omega_hoa_edges.specs.Refusing.{IsFirstClash, IsFirstUndecided}
-use Rattle.omega_hoa_diagnostics.specs.Choices.{AreAllPassedOver, IsFirstChoice, edges_before}
+use Rattle.omega_hoa_diagnostics.specs.Choices.{AreAllPassedOver, IsFirstChoice}
+use Rattle.omega_hoa_automaton.specs.Automaton.{edges_before}
 use Rattle.omega_hoa_diagnostics.specs.LinesOfTexts.{IsLineOfText}
 
 -- the line about the count of starts

@@ -9,7 +9,8 @@ use Rattle.omega_hoa_edges.specs.AutomatonLabels.{labels_at}
 use Rattle.omega_lang_complement.specs.Refusing.{IsUncomplemented}
 use Rattle.omega_hoa_edges.specs.Refusing.{IsUndecidedFault}
 use Rattle.omega_hoa_diagnostics.specs.ChoiceCauses.{IsChoiceCause, edges_line, starts_line}
-use Rattle.omega_hoa_diagnostics.specs.Choices.{IsFirstChoice, edges_before}
+use Rattle.omega_hoa_diagnostics.specs.Choices.{IsFirstChoice}
+use Rattle.omega_hoa_automaton.specs.Automaton.{edges_before}
 
 -- the line is about the first two edges of this state that can be taken together
 pub record TellsState (a : Description) (state : ℕ) (line : List ℕ) : Type 0 where

@@ -1,11 +1,9 @@
 -- Two edges of a state that can be taken together, which is at one letter, and the first such two.
-use Rattle.std.specs.Prelude.{◌≡◌, ◌⊎◌, ℕ, ◌+◌, ◌<◌, ◌==◌, if◌then◌else◌}
-use Rattle.std.specs.Prelude.{List, [], ◌∷◌, length, slice_get, Some}
+use Rattle.std.specs.Prelude.{◌≡◌, ◌⊎◌, ℕ, ◌<◌, List, slice_get, Some}
 use Rattle.omega_hoa_label.specs.Label.{LabelTree, conjunction}
 use Rattle.omega_hoa_label.specs.Shape.{FitsALabel}
 use Rattle.omega_hoa_satisfiable.specs.Satisfiable.{IsSatisfiable}
 use Rattle.omega_hoa_satisfiable.specs.Undecided.{IsHardLabel}
-use Rattle.omega_hoa_automaton.specs.declared.state.State.{State}
 
 -- two edges of a state, by their indices, of which the first comes before the second, and their labels
 pub record AreTwoEdges (labels : List LabelTree) (first second : ℕ)
@@ -46,9 +44,3 @@ pub record IsFirstChoice (labels : List LabelTree) (first second : ℕ) : Type 0
 -- of each two edges of a state that can be taken together, that may be left undecided
 abbrev pub AreAllPassedOver : List LabelTree → Type 0
 AreAllPassedOver labels = (first second : ℕ) → IsPassedOver labels first second
-
--- how many edges the body has before those of the first state with a number
-abbrev pub edges_before : List State → ℕ → ℕ
-edges_before [] number = 0
-edges_before (state ∷ states) number =
-    if state.number == number then 0 else length state.edges + edges_before states number

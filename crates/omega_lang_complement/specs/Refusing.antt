@@ -1,17 +1,16 @@
 -- The refusal of the complement, the first of these: `UniversalBranch`; `TooLarge` by the counts of the automaton;
 -- `NotDeterministic` by a second start; the fault of the first state with one, which is `NotDeterministic`,
 -- `TooManyPropositions` or `TooLarge`; `TooLarge` by the written complement. Want of memory may come at each step.
-use Rattle.std.specs.Prelude.{◌≡◌, ◌⊎◌, ℕ, ◌<◌, ◌≤◌, Bool, true, false, List, length, Some}
+use Rattle.std.specs.Prelude.{◌≡◌, ◌⊎◌, ℕ, ◌<◌, ◌≤◌, Bool, true, false, List, length}
 use Rattle.omega_text.specs.Cases.{never, or_memory, or_task}
 use Rattle.omega_text.specs.declared.refusal.Refusal.{Refusal}
-use Rattle.omega_text.specs.declared.refusal.automaton.AutomatonFault.{AutomatonFault}
 use Rattle.omega_text.specs.declared.refusal.task.TaskFault.{TaskFault}
 use Rattle.omega_text.specs.declared.refusal.task.TaskFault.TheVariants.{NotDeterministic, TooLarge}
 use Rattle.omega_text.specs.declared.refusal.task.TaskFault.TheVariants.{TooManyPropositions, UniversalBranch}
 use Rattle.omega_hoa_label.specs.Label.{LabelTree}
 use Rattle.omega_hoa_automaton.specs.Automaton.{Description}
 use Rattle.omega_hoa_automaton.specs.Branching.{has_universal_branching}
-use Rattle.omega_hoa_automaton.specs.Faults.{automaton_fault_of}
+use Rattle.omega_hoa_automaton.specs.Faults.{BreaksLimit}
 use Rattle.omega_hoa_syntax.specs.declared.raw_automaton.RawAutomaton.{RawAutomaton}
 use Rattle.omega_hoa_edges.specs.Determinism.{AreExclusiveBelow}
 use Rattle.omega_lang_complement.specs.Complement.{AreFittingBelow, exceeds_limits}
@@ -33,10 +32,6 @@ abbrev pub IsFirstFault : Description → TaskFault → Type 0
 IsFirstFault a fault =
     (number : ℕ) × (number < a.states) × AreExclusiveBelow a number × AreFittingBelow a number
     × IsStateFault (is_full_at a number) (labels_at a number) number fault
-
--- a written automaton breaks a limit of automata
-abbrev pub BreaksLimit : RawAutomaton → Type 0
-BreaksLimit raw = (fault : AutomatonFault) × (automaton_fault_of raw ≡ Some fault)
 
 -- the written complement breaks a limit of automata
 abbrev pub IsUnwritable : Description → Type 0

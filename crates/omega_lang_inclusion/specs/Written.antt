@@ -5,7 +5,7 @@ use Rattle.std.specs.Prelude.{List, [], ◌∷◌, ◌++◌, length, None, Some,
 use Rattle.omega_hoa_automaton.specs.Automaton.{Description}
 use Rattle.omega_hoa_automaton.specs.Limits.{most_propositions}
 use Rattle.omega_hoa_automaton.specs.Meaning.{Means}
-use Rattle.omega_lang_complement.specs.Refusing.{BreaksLimit}
+use Rattle.omega_hoa_automaton.specs.Faults.{BreaksLimit}
 use Rattle.omega_hoa_edges.specs.Fitting.{IsLarge}
 use Rattle.omega_hoa_edges.specs.Limits.{most_states}
 use Rattle.omega_hoa_acceptance.specs.Raw.{constant}

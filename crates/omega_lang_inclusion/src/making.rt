@@ -4,13 +4,13 @@
 ghost use Rattle.std.specs.Prelude.{◌≡◌, ◌∷◌, [], ◌++◌, ◌+◌, ◌<◌, ◌≤◌, ◌↔◌, false};
 ghost use Rattle.std.specs.Prelude.{length, IfErr, IfOk, IsOkUnless, IsTrue};
 ghost use Rattle.omega_hoa_automaton.specs.Limits.{most_propositions};
-ghost use Rattle.omega_lang_complement.specs.Refusing.{BreaksLimit};
+ghost use Rattle.omega_hoa_automaton.specs.Faults.{BreaksLimit};
 ghost use Rattle.omega_hoa_edges.specs.Fitting.{IsLarge};
 ghost use Rattle.omega_hoa_edges.specs.Limits.{most_states};
 ghost use Rattle.omega_hoa_syntax.specs.declared.raw_item.RawItem.TheVariants as item;
 ghost use Rattle.omega_lang_inclusion.specs.Written.{HasNoAutomaton, IsWordAutomaton, IsOversized};
 ghost use Rattle.omega_lang_inclusion.specs.Written.{letter_states, written_items, written_word};
-ghost use Rattle.omega_lang_product.specs.Written.{raw_of};
+ghost use Rattle.omega_hoa_automaton.specs.Written.{raw_automaton};
 ghost use Rattle.omega_hoa_automaton.specs.Meaning.{Means};
 
 use crate::states::letter_states;
@@ -103,7 +103,7 @@ fn with_items(
 ) -> Result<RawAutomaton, Refusal>
     requires { length stem.items + length others.items < most_states }
     ensures written { IfOk result
-        (λ raw. raw ≡ raw_of items.items (letter_states (length stem.items + length others.items + 1)
+        (λ raw. raw ≡ raw_automaton items.items (letter_states (length stem.items + length others.items + 1)
         (length stem.items) 0 (stem.items ++ first ∷ others.items))) }
     ensures memory { IsOkUnless result Refusal.Memory }
 {
@@ -119,7 +119,7 @@ fn raw_automaton_of(
     items: Vec<RawItem>,
     states: Vec<RawState>,
 ) -> Result<RawAutomaton, Refusal>
-    ensures written { IfOk result (λ raw. raw ≡ raw_of items.items states.items) }
+    ensures written { IfOk result (λ raw. raw ≡ raw_automaton items.items states.items) }
     ensures memory { IsOkUnless result Refusal.Memory }
 {
     let version = ByteString::from_slice(alloc, b"v1")?;

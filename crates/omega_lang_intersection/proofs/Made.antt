@@ -15,11 +15,12 @@ use Rattle.omega_lang_runs.proofs.Taken.{allows_where_true}
 use Rattle.omega_lang_runs.proofs.runs.Words.{held_by}
 use Rattle.omega_lang_product.specs.JointEdges.{Numbered, numbered_from}
 use Rattle.omega_lang_product.specs.Joining.{joined_names, number_among, places_among}
-use Rattle.omega_lang_product.specs.PairGraph.{IsPairGraph, edges_before}
+use Rattle.omega_lang_product.specs.PairGraph.{IsPairGraph}
+use Rattle.omega_hoa_automaton.specs.Automaton.{edges_before}
 use Rattle.omega_lang_product.specs.Pairs.{Pair, first_view, pair_number, start_pairs, start_state}
-use Rattle.omega_lang_product.specs.Transitions.{transitions_at}
+use Rattle.omega_lang_product.specs.PlainEdges.{plain_edges_at}
 use Rattle.omega_lang_product.specs.declared.graph.PairGraph.{PairGraph}
-use Rattle.omega_lang_product.specs.declared.transition.Transition.{Transition}
+use Rattle.omega_lang_product.specs.declared.plain_edge.PlainEdge.{PlainEdge}
 use Rattle.omega_lang_product.proofs.Membership.{Contains-cases, Contains-here, Contains-nothing, Contains-there}
 use Rattle.omega_lang_word_laws.specs.Graphs.{IsGraphOf}
 use Rattle.omega_text.specs.NamedWords.{NamedWord}
@@ -31,18 +32,18 @@ use Rattle.omega_lang_product.proofs.Valuations.{truth_relabelled}
 use Rattle.omega_lang_word_laws.proofs.meeting.Labels.{valuation_true}
 use Rattle.omega_lang_word_laws.proofs.meeting.Lists.{flat_map_contains, map_contains}
 use Rattle.omega_lang_word_laws.proofs.meeting.Meeting.{first_moved, one_start, usable_of}
-use Rattle.omega_lang_word_laws.proofs.meeting.Transitions.{IsListedAt, numbered_found}
+use Rattle.omega_lang_word_laws.proofs.meeting.PlainEdges.{IsListedAt, numbered_found}
 use Rattle.omega_lang_intersection.specs.private.Named.{IsNamed}
 use Rattle.omega_lang_intersection.proofs.Along.{allowed_alike}
 use Rattle.omega_lang_intersection.proofs.Formulas.{label_below, named_first}
 use Rattle.omega_lang_intersection.proofs.Standing.{Row, first_is, label_is, row}
 
 -- a numbered edge of a row is one of the automaton, by its number
-pub numbered_within : (first : ℕ) (ts : List Transition) (x : Numbered) → Contains (numbered_from first ts) x → Contains ts x.transition
+pub numbered_within : (first : ℕ) (ts : List PlainEdge) (x : Numbered) → Contains (numbered_from first ts) x → Contains ts x.plain_edge
 numbered_within first [] x within = absurd (Contains-nothing x within)
-numbered_within first (t ∷ ts) x within = elim (Contains-cases (record { number = first; transition = t }) x (numbered_from (first + 1) ts) within) [
-  | inl here ↦ let P : Transition → Type 0 = λ u. Contains (t ∷ ts) u in subst P (ap (λ (y : Numbered). y.transition) here) (Contains-here t ts)
-  | inr later ↦ Contains-there t x.transition ts (numbered_within (first + 1) ts x later)
+numbered_within first (t ∷ ts) x within = elim (Contains-cases (record { number = first; plain_edge = t }) x (numbered_from (first + 1) ts) within) [
+  | inl here ↦ let P : PlainEdge → Type 0 = λ u. Contains (t ∷ ts) u in subst P (ap (λ (y : Numbered). y.plain_edge) here) (Contains-here t ts)
+  | inr later ↦ Contains-there t x.plain_edge ts (numbered_within (first + 1) ts x later)
 ]
 
 module _ (one other : Description) (automaton : IsAutomaton one) (automaton' : IsAutomaton other)
@@ -64,17 +65,17 @@ module _ (one other : Description) (automaton : IsAutomaton one) (automaton' : I
 
   pub record IsMade (number : ℕ) (joint : BodyEdge) (r : R number joint) : Type 0 where
     pub edge : BodyEdge
-    pub listed : IsListedAt (first_view one other) one.defined (first_at number) edge r.joint.first.transition
+    pub listed : IsListedAt (first_view one other) one.defined (first_at number) edge r.joint.first.plain_edge
     pub leaves : edge.source.number ≡ r.takes.pair.0
 
   pub made : (number : ℕ) (joint : BodyEdge) (r : R number joint) → IsMade number joint r
   made number joint r =
       let none : 0 + edges_before one.defined r.takes.pair.0 ≡ edges_before one.defined r.takes.pair.0 = omega arith in
-      let P : ℕ → Type 0 = λ n. Contains (numbered_from n (transitions_at (first_view one other) one.defined r.takes.pair.0)) r.joint.first in
+      let P : ℕ → Type 0 = λ n. Contains (numbered_from n (plain_edges_at (first_view one other) one.defined r.takes.pair.0)) r.joint.first in
       let found = numbered_found (first_view one other) one.defined r.takes.pair.0 0 r.joint.first (subst P (sym none) r.takes.first_in) in
       let zero_more : 0 + found.0 ≡ found.0 = omega arith in
       let here : found.0 ≡ first_at number = sym (first_is one other graph is both of number joint r ∙ found.4 ∙ zero_more) in
-      let Q : ℕ → Type 0 = λ n. IsListedAt (first_view one other) one.defined n found.1 r.joint.first.transition in
+      let Q : ℕ → Type 0 = λ n. IsListedAt (first_view one other) one.defined n found.1 r.joint.first.plain_edge in
       record { edge = found.1; listed = subst Q here found.2; leaves = found.3 }
 
   state_is : (number : ℕ) (joint : BodyEdge) (r : R number joint) → state_at number ≡ r.takes.pair.0
@@ -83,14 +84,14 @@ module _ (one other : Description) (automaton : IsAutomaton one) (automaton' : I
   -- the pair of the edge that follows is the one that both edges lead to
   next_is : (q number q' next q'' : ℕ) (step : IsStep both q number q') (step' : IsStep both q' next q'')
       → (row one other graph is both of next step'.edge step'.numbered).takes.pair
-      ≡ ((row one other graph is both of number step.edge step.numbered).joint.first.transition.target, (row one other graph is both of number step.edge step.numbered).joint.second.transition.target)
+      ≡ ((row one other graph is both of number step.edge step.numbered).joint.first.plain_edge.target, (row one other graph is both of number step.edge step.numbered).joint.second.plain_edge.target)
   next_is q number q' next q'' step step' =
       let j = row one other graph is both of number step.edge step.numbered in
       let k = row one other graph is both of next step'.edge step'.numbered in
-      let enters : pair_number is.pairs (j.joint.first.transition.target, j.joint.second.transition.target) ≡ q' =
+      let enters : pair_number is.pairs (j.joint.first.plain_edge.target, j.joint.second.plain_edge.target) ≡ q' =
       head_same _ _ (sym j.takes.edge_is.targets ∙ step.enters) in
       let here : q' ≡ pair_number is.pairs k.takes.pair = sym step'.leaves ∙ k.takes.number in
-      number_tells is.pairs k.takes.pair (j.joint.first.transition.target, j.joint.second.transition.target) (number_below is.pairs k.takes.pair k.takes.within) (sym here ∙ sym enters)
+      number_tells is.pairs k.takes.pair (j.joint.first.plain_edge.target, j.joint.second.plain_edge.target) (number_below is.pairs k.takes.pair k.takes.within) (sym here ∙ sym enters)
     where
       head_same : (x y : ℕ) → x ∷ [] ≡ y ∷ [] → x ≡ y
       head_same x y e = cc
@@ -104,8 +105,8 @@ module _ (one other : Description) (automaton : IsAutomaton one) (automaton' : I
       (sym (truth_same (λ p. held (get_or names (number_among places p) [])) (λ p. held (get_or one.propositions p [])) label (λ p within.
       ap held (named_first one.propositions other.propositions p (label_below one index m.edge.source.label m.edge.edge.label kept.0.label kept.1.label p within))))
       ∙ sym (truth_relabelled places (λ p. held (get_or names p [])) label)
-      ∙ ap (truth (λ p. held (get_or names p []))) (sym (ap (λ (t : Transition). t.label) m.listed.is))
-      ∙ (and_both (truth (λ p. held (get_or names p [])) r.joint.first.transition.label) (truth (λ p. held (get_or names p [])) r.joint.second.transition.label) holds).0)
+      ∙ ap (truth (λ p. held (get_or names p []))) (sym (ap (λ (t : PlainEdge). t.label) m.listed.is))
+      ∙ (and_both (truth (λ p. held (get_or names p [])) r.joint.first.plain_edge.label) (truth (λ p. held (get_or names p [])) r.joint.second.plain_edge.label) holds).0)
     where
       m : IsMade number joint r
       m = made number joint r
@@ -128,11 +129,11 @@ module _ (one other : Description) (automaton : IsAutomaton one) (automaton' : I
       kept : IsState one m.edge.source × IsEdge one m.edge.edge
       kept = edge_kept one automaton (first_at number) m.edge m.listed.at
 
-      holds : truth (λ p. held (get_or names p [])) (conjunction r.joint.first.transition.label r.joint.second.transition.label) ≡ true
+      holds : truth (λ p. held (get_or names p [])) (conjunction r.joint.first.plain_edge.label r.joint.second.plain_edge.label) ≡ true
       holds =
           let P : Option LabelTree → Type 0 = λ l. Allows both number l (λ p. held (get_or both.propositions p [])) in
-          let Q : List (List ℕ) → Type 0 = λ ns. truth (λ p. held (get_or ns p [])) (joined r.joint.first.transition.label r.joint.second.transition.label) ≡ true in
-          sym (joined_means (λ p. held (get_or names p [])) r.joint.first.transition.label r.joint.second.transition.label)
+          let Q : List (List ℕ) → Type 0 = λ ns. truth (λ p. held (get_or ns p [])) (joined r.joint.first.plain_edge.label r.joint.second.plain_edge.label) ≡ true in
+          sym (joined_means (λ p. held (get_or names p [])) r.joint.first.plain_edge.label r.joint.second.plain_edge.label)
           ∙ subst Q of.product.propositions (subst P (label_is one other graph is both of r.joint joint r.takes) allowed)
 
   -- so where the one can be taken, the other can
@@ -150,7 +151,7 @@ module _ (one other : Description) (automaton : IsAutomaton one) (automaton' : I
     numbered = m.listed.at;
     usable = usable_of one (first_at number) (label_of m.edge) (λ p. held (get_or one.propositions p [])) (first_true number step.edge r held allowed);
     leaves = m.leaves ∙ sym (state_is number step.edge r);
-    enters = target.enters ∙ ap (λ n. n ∷ []) (ap (λ (targets : List ℕ). slice_index_or targets 0 0) (sym target.enters) ∙ sym (ap (λ (t : Transition). t.target) m.listed.is)
+    enters = target.enters ∙ ap (λ n. n ∷ []) (ap (λ (targets : List ℕ). slice_index_or targets 0 0) (sym target.enters) ∙ sym (ap (λ (t : PlainEdge). t.target) m.listed.is)
         ∙ sym (ap (λ (p : Pair). p.0) (next_is q number q' next q'' step step')) ∙ sym (state_is next step'.edge r'));
   }
     where
@@ -206,10 +207,10 @@ module _ (one other : Description) (automaton : IsAutomaton one) (automaton' : I
       let m = made number step.edge r in
       let none : 0 + set ≡ set = omega arith in
       ap (holds set) (marks_are one (first_at number) m.edge m.listed.at)
-      ∙ first_moved one other both automaton automaton' plain plain' of.product r.takes.pair.0 r.takes.pair.1 r.joint.first.transition r.joint.second.transition step.edge.edge.marks
-      (numbered_within (edges_before one.defined r.takes.pair.0) (transitions_at (first_view one other) one.defined r.takes.pair.0) r.joint.first r.takes.first_in)
+      ∙ first_moved one other both automaton automaton' plain plain' of.product r.takes.pair.0 r.takes.pair.1 r.joint.first.plain_edge r.joint.second.plain_edge step.edge.edge.marks
+      (numbered_within (edges_before one.defined r.takes.pair.0) (plain_edges_at (first_view one other) one.defined r.takes.pair.0) r.joint.first r.takes.first_in)
       (numbered_within (edges_before other.defined r.takes.pair.1) _ r.joint.second r.takes.second_in)
-      r.takes.edge_is.marks (m.edge.source.marks ++ m.edge.edge.marks) (ap (λ (t : Transition). t.marks) m.listed.is) set below
+      r.takes.edge_is.marks (m.edge.source.marks ++ m.edge.edge.marks) (ap (λ (t : PlainEdge). t.marks) m.listed.is) set below
       ∙ ap (λ n. holds n step.edge.edge.marks) none
       ∙ ap (λ (own : List ℕ). holds set (own ++ step.edge.edge.marks)) (sym r.takes.no_marks)
       ∙ ap (holds set) (sym (marks_are both number step.edge step.numbered))

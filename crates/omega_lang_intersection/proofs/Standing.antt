@@ -21,16 +21,17 @@ use Rattle.omega_lang_runs.proofs.Kept.{edge_kept}
 use Rattle.omega_lang_lasso_search.specs.Tabled.{AllAreUsable, IsTabled, ListsOne, ends_of, first_of}
 use Rattle.omega_lang_product.specs.JointEdges.{Joint, marks_of_both, numbered_from}
 use Rattle.omega_lang_product.specs.Joining.{joined_names}
-use Rattle.omega_lang_product.specs.PairGraph.{IsPairGraph, edges_before, joints_of}
+use Rattle.omega_lang_product.specs.PairGraph.{IsPairGraph, joints_of}
+use Rattle.omega_hoa_automaton.specs.Automaton.{edges_before}
 use Rattle.omega_lang_product.specs.Pairs.{Pair, first_view, pair_number, second_view, start_pairs}
-use Rattle.omega_lang_product.specs.Transitions.{transitions_at}
-use Rattle.omega_lang_product.specs.declared.transition.Transition.{Transition}
+use Rattle.omega_lang_product.specs.PlainEdges.{plain_edges_at}
+use Rattle.omega_lang_product.specs.declared.plain_edge.PlainEdge.{PlainEdge}
 use Rattle.omega_lang_product.specs.declared.graph.PairGraph.{PairGraph}
 use Rattle.omega_lang_word_laws.specs.Graphs.{IsGraphOf, TakesTogether}
 use Rattle.omega_lang_product.proofs.Holding.{can_hold_iff}
 use Rattle.omega_lang_word_laws.proofs.meeting.Lists.{index_of, map_contains, same_some}
 use Rattle.omega_lang_word_laws.proofs.meeting.Marks.{contains_holds, holds_contains, same_truth}
-use Rattle.omega_lang_word_laws.proofs.meeting.Transitions.{numbered_found}
+use Rattle.omega_lang_word_laws.proofs.meeting.PlainEdges.{numbered_found}
 use Rattle.omega_lang_intersection.specs.private.Named.{IsNamed}
 use Rattle.omega_lang_intersection.proofs.Formulas.{label_below}
 use Rattle.omega_lang_intersection.proofs.Conjuncts.{joined_below}
@@ -168,45 +169,45 @@ module _ (one other : Description) (graph : PairGraph) (is : IsPairGraph one oth
   }
 
   -- each edge is usable
-  pub label_is : (joint : Joint) (edge : BodyEdge) → Takes joint edge → label_of edge ≡ Some (joined joint.first.transition.label joint.second.transition.label)
+  pub label_is : (joint : Joint) (edge : BodyEdge) → Takes joint edge → label_of edge ≡ Some (joined joint.first.plain_edge.label joint.second.plain_edge.label)
   label_is joint edge takes = ap (λ (own : Option LabelTree). option_or own edge.edge.label) takes.no_label ∙ takes.edge_is.label
 
   pub all_usable : AllAreUsable a
   all_usable number edge at =
       let r = row number edge at in
-      let first : LabelTree = r.joint.first.transition.label in
-      let second : LabelTree = r.joint.second.transition.label in
+      let first : LabelTree = r.joint.first.plain_edge.label in
+      let second : LabelTree = r.joint.second.plain_edge.label in
       let can = (can_hold_iff (conjunction first second)).0 r.takes.meets in
       subst (λ (label : Option LabelTree). IfSome label IsSatisfiable) (sym (label_is r.joint edge r.takes))
       (can.0, joined_means can.0 first second ∙ can.1)
 
   -- its names are apart, and its labels have propositions with names
   module _ (automaton : IsAutomaton one) (automaton' : IsAutomaton other) where
-    first_low : (number : ℕ) (edge : BodyEdge) (r : Row number edge) (p : ℕ) → Contains (propositions r.joint.first.transition.label) p
+    first_low : (number : ℕ) (edge : BodyEdge) (r : Row number edge) (p : ℕ) → Contains (propositions r.joint.first.plain_edge.label) p
         → p < length (joined_names one.propositions other.propositions)
     first_low number edge r p within =
         let none : 0 + edges_before one.defined r.takes.pair.0 ≡ edges_before one.defined r.takes.pair.0 = omega arith in
-        let P : ℕ → Type 0 = λ n. Contains (numbered_from n (transitions_at (first_view one other) one.defined r.takes.pair.0)) r.joint.first in
+        let P : ℕ → Type 0 = λ n. Contains (numbered_from n (plain_edges_at (first_view one other) one.defined r.takes.pair.0)) r.joint.first in
         let found = numbered_found (first_view one other) one.defined r.takes.pair.0 0 r.joint.first (subst P (sym none) r.takes.first_in) in
         let kept = edge_kept one automaton found.0 found.1 found.2.at in
         let index : ℕ = index_in one.defined found.0 in
         let Q : LabelTree → Type 0 = λ label. Contains (propositions label) p in
         first_below one.propositions other.propositions (label_at (length one.propositions) found.1.source index found.1.edge)
         (λ q h. label_below one index found.1.source.label found.1.edge.label kept.0.label kept.1.label q h) p
-        (subst Q (ap (λ (t : Transition). t.label) found.2.is) within)
+        (subst Q (ap (λ (t : PlainEdge). t.label) found.2.is) within)
 
-    second_low : (number : ℕ) (edge : BodyEdge) (r : Row number edge) (p : ℕ) → Contains (propositions r.joint.second.transition.label) p
+    second_low : (number : ℕ) (edge : BodyEdge) (r : Row number edge) (p : ℕ) → Contains (propositions r.joint.second.plain_edge.label) p
         → p < length (joined_names one.propositions other.propositions)
     second_low number edge r p within =
         let none : 0 + edges_before other.defined r.takes.pair.1 ≡ edges_before other.defined r.takes.pair.1 = omega arith in
-        let P : ℕ → Type 0 = λ n. Contains (numbered_from n (transitions_at (second_view one other) other.defined r.takes.pair.1)) r.joint.second in
+        let P : ℕ → Type 0 = λ n. Contains (numbered_from n (plain_edges_at (second_view one other) other.defined r.takes.pair.1)) r.joint.second in
         let found = numbered_found (second_view one other) other.defined r.takes.pair.1 0 r.joint.second (subst P (sym none) r.takes.second_in) in
         let kept = edge_kept other automaton' found.0 found.1 found.2.at in
         let index : ℕ = index_in other.defined found.0 in
         let Q : LabelTree → Type 0 = λ label. Contains (propositions label) p in
         second_below one.propositions other.propositions (label_at (length other.propositions) found.1.source index found.1.edge)
         (λ q h. label_below other index found.1.source.label found.1.edge.label kept.0.label kept.1.label q h) p
-        (subst Q (ap (λ (t : Transition). t.label) found.2.is) within)
+        (subst Q (ap (λ (t : PlainEdge). t.label) found.2.is) within)
 
     pub product_named : IsNamed a
     product_named = record {
@@ -214,8 +215,8 @@ module _ (one other : Description) (graph : PairGraph) (is : IsPairGraph one oth
           subst P (sym of.product.propositions) (joined_apart one.propositions other.propositions automaton.unlike automaton'.unlike));
       below = λ number edge label at is_label p within.
           let r = row number edge at in
-          let first : LabelTree = r.joint.first.transition.label in
-          let second : LabelTree = r.joint.second.transition.label in
+          let first : LabelTree = r.joint.first.plain_edge.label in
+          let second : LabelTree = r.joint.second.plain_edge.label in
           let same : label ≡ joined first second = same_some label (joined first second) (sym is_label ∙ label_is r.joint edge r.takes) in
           let P : LabelTree → Type 0 = λ l. Contains (propositions l) p in
           let Q : List (List ℕ) → Type 0 = λ names. p < length names in

@@ -4,7 +4,7 @@ use Rattle.omega_lang_product.specs.JointEdges.{Numbered, numbered_from, numbere
 use Rattle.omega_lang_product.specs.Pairs.{can_meet, partners}
 use Rattle.omega_lang_product.specs.declared.row.Row.{Row}
 use Rattle.omega_lang_product.specs.declared.row.RowEdge.{RowEdge}
-use Rattle.omega_lang_product.specs.declared.transition.Transition.{Transition}
+use Rattle.omega_lang_product.specs.declared.plain_edge.PlainEdge.{PlainEdge}
 use Rattle.omega_lang_product.specs.private.Adding.{numbered_edge, numbered_in}
 use Rattle.omega_lang_product.specs.private.Meeting.{HasPartners, MeetsAlone}
 
@@ -33,23 +33,23 @@ alone_passes {X = X} p (x ∷ xs) (suc at) alone =
     go false e = refl
 
 -- edges numbered after others
-pub numbered_alone : (first at : ℕ) (ts : List Transition) → at ≤ length ts → numbered_from (first + at) (take 1 (drop at ts)) ≡ take 1 (drop at (numbered_from first ts))
+pub numbered_alone : (first at : ℕ) (ts : List PlainEdge) → at ≤ length ts → numbered_from (first + at) (take 1 (drop at ts)) ≡ take 1 (drop at (numbered_from first ts))
 numbered_alone first zero [] below = refl
 numbered_alone first (suc at) [] below = absurd (omega (arith, below))
 numbered_alone first zero (t ∷ ts) below =
     let e : first + 0 ≡ first = omega arith in
-    ap {B = List Numbered} (λ n. record { number = n; transition = t } ∷ []) e
+    ap {B = List Numbered} (λ n. record { number = n; plain_edge = t } ∷ []) e
 numbered_alone first (suc at) (t ∷ ts) below =
     let e : first + suc at ≡ (first + 1) + at = omega arith in
     ap (λ n. numbered_from n (take 1 (drop at ts))) e ∙ numbered_alone (first + 1) at ts (omega (arith, below))
 
 -- an edge by its number is one of the edges
-numbered_there : (first : ℕ) (ts : List Transition) (i : ℕ) (x : Numbered) → slice_get (numbered_from first ts) i ≡ Some x → slice_get ts i ≡ Some x.transition
+numbered_there : (first : ℕ) (ts : List PlainEdge) (i : ℕ) (x : Numbered) → slice_get (numbered_from first ts) i ≡ Some x → slice_get ts i ≡ Some x.plain_edge
 numbered_there first [] i x here = absurd (never here)
   where
     never : {X : Type 0} {x : X} → None ≡ Some x → ⊥
     never e = cc
-numbered_there first (t ∷ ts) zero x here = ap (λ (o : Option Numbered). option_map (λ (y : Numbered). y.transition) o) here
+numbered_there first (t ∷ ts) zero x here = ap (λ (o : Option Numbered). option_map (λ (y : Numbered). y.plain_edge) o) here
 numbered_there first (t ∷ ts) (suc i) x here = numbered_there (first + 1) ts i x here
 
 -- an element at an index
@@ -67,11 +67,11 @@ listed_alone (y ∷ ys) (suc at) x listed = later (listed_alone ys at x listed)
 has_partner : (edge : RowEdge) (all row : Row) (at : ℕ) → MeetsAlone edge.edge.now at all.edges.now → row.edges.now ≡ take 1 (drop at all.edges.now)
     → numbered_in row ≡ take 1 (drop at (numbered_in all)) → HasPartners edge all row
 has_partner edge all row at alone edges numbered = record {
-  transitions = ap (partners edge.edge.now) edges ∙ alone_passes (can_meet edge.edge.now) all.edges.now at (λ i other here apart. alone.apart i other here apart);
+  plain_edges = ap (partners edge.edge.now) edges ∙ alone_passes (can_meet edge.edge.now) all.edges.now at (λ i other here apart. alone.apart i other here apart);
   numbered = ap (numbered_partners (numbered_edge edge)) numbered
-      ∙ alone_passes (λ (second : Numbered). can_meet edge.edge.now second.transition) (numbered_in all) at
-      (λ i second here apart. alone.apart i second.transition (numbered_there all.before all.edges.now i second here) apart);
-  listed = λ other listed. listed_alone all.edges.now at other (subst (λ (ts : List Transition). Contains ts other) edges listed);
+      ∙ alone_passes (λ (second : Numbered). can_meet edge.edge.now second.plain_edge) (numbered_in all) at
+      (λ i second here apart. alone.apart i second.plain_edge (numbered_there all.before all.edges.now i second here) apart);
+  listed = λ other listed. listed_alone all.edges.now at other (subst (λ (ts : List PlainEdge). Contains ts other) edges listed);
 }
 
 pub partner_found : (edge : RowEdge) (all : Row) (at : ℕ) → MeetsAlone edge.edge.now at all.edges.now → {E : Type 0} (result : Result Row E)

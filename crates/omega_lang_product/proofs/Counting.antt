@@ -7,8 +7,8 @@ use Rattle.omega_hoa_automaton.specs.Automaton.{Description}
 use Rattle.omega_hoa_syntax.specs.declared.raw_state.RawState.{RawState}
 use Rattle.omega_hoa_edges.specs.Limits.{most_edges}
 use Rattle.omega_lang_product.specs.Pairs.{Pair, first_leaving, partners, second_leaving, targets_between, targets_of}
-use Rattle.omega_lang_product.specs.Product.{joint_transitions, taken_together}
-use Rattle.omega_lang_product.specs.declared.transition.Transition.{Transition}
+use Rattle.omega_lang_product.specs.Product.{joint_plain_edges, taken_together}
+use Rattle.omega_lang_product.specs.declared.plain_edge.PlainEdge.{PlainEdge}
 use Rattle.omega_lang_product.specs.Written.{raw_edge, raw_state_of}
 use Rattle.omega_graph.specs.Graph.{edge_of}
 use Rattle.omega_lang_product.specs.JointEdges.{AreJoints, Joint}
@@ -17,10 +17,10 @@ use Rattle.omega_lang_product.specs.declared.joint_edges.JointEdges.{JointEdges}
 use Rattle.omega_lang_product.proofs.Crossing as crossing
 
 -- the edges of a pair of states are as many as the pairs that it leads to
-as_many : (pairs : List Pair) (ts us : List Transition) → length (joint_transitions pairs ts us) ≡ length (targets_between ts us)
+as_many : (pairs : List Pair) (ts us : List PlainEdge) → length (joint_plain_edges pairs ts us) ≡ length (targets_between ts us)
 as_many pairs [] us = refl
 as_many pairs (t ∷ ts) us =
-    length-append (map (taken_together pairs t) (partners t us)) (joint_transitions pairs ts us)
+    length-append (map (taken_together pairs t) (partners t us)) (joint_plain_edges pairs ts us)
     ∙ ap₂ ◌+◌ (length-map (partners t us) (taken_together pairs t) ∙ sym (length-map (partners t us) (λ other. (t.target, other.target)))) (as_many pairs ts us)
     ∙ sym (length-append (map (λ other. (t.target, other.target)) (partners t us)) (targets_between ts us))
 
@@ -31,7 +31,7 @@ module _ (one other : Description) (pairs : List Pair) where
 
   pub state_edges : (pair : Pair) → length (raw_state_of one other pairs pair).edges ≡ length (targets_of one other pair)
   state_edges pair =
-      length-map (joint_transitions pairs (first_leaving one other pair) (second_leaving one other pair)) raw_edge
+      length-map (joint_plain_edges pairs (first_leaving one other pair) (second_leaving one other pair)) raw_edge
       ∙ as_many pairs (first_leaving one other pair) (second_leaving one other pair)
 
   pub all_edges : (ps : List Pair) → sum_by (λ (state : RawState). length state.edges) (map (raw_state_of one other pairs) ps) ≡ sum_by (λ pair. length (targets_of one other pair)) ps

@@ -6,30 +6,31 @@ use Rattle.std.proofs.lemmas.List.{length-append, length-map}
 use Rattle.std.proofs.lemmas.List.Sums.{sum_by-cons}
 use Rattle.omega_hoa_automaton.specs.Automaton.{Description}
 use Rattle.omega_lang_product.specs.JointEdges.{Numbered, joint_of, joints_between, joints_with, numbered_from, numbered_partners}
-use Rattle.omega_lang_product.specs.PairGraph.{edges_before, joints_at}
+use Rattle.omega_lang_product.specs.PairGraph.{joints_at}
+use Rattle.omega_hoa_automaton.specs.Automaton.{edges_before}
 use Rattle.omega_lang_product.specs.Pairs.{Pair, can_meet, first_leaving, pair_number, partners, second_leaving, targets_between, targets_of}
-use Rattle.omega_lang_product.specs.declared.transition.Transition.{Transition}
+use Rattle.omega_lang_product.specs.declared.plain_edge.PlainEdge.{PlainEdge}
 
 -- numbers do not matter to what passes a test
-passing : (p : Transition → Bool) (n : ℕ) (us : List Transition) → length (filter (λ (x : Numbered). p x.transition) (numbered_from n us)) ≡ length (filter p us)
+passing : (p : PlainEdge → Bool) (n : ℕ) (us : List PlainEdge) → length (filter (λ (x : Numbered). p x.plain_edge) (numbered_from n us)) ≡ length (filter p us)
 passing p n [] = refl
 passing p n (u ∷ us) = go (p u) (passing p (n + 1) us)
   where
     x : Numbered
-    x = record { number = n; transition = u }
+    x = record { number = n; plain_edge = u }
 
-    go : (b : Bool) → length (filter (λ (x : Numbered). p x.transition) (numbered_from (n + 1) us)) ≡ length (filter p us)
-        → length (cond b (x ∷ filter (λ (x : Numbered). p x.transition) (numbered_from (n + 1) us)) (filter (λ (x : Numbered). p x.transition) (numbered_from (n + 1) us)))
+    go : (b : Bool) → length (filter (λ (x : Numbered). p x.plain_edge) (numbered_from (n + 1) us)) ≡ length (filter p us)
+        → length (cond b (x ∷ filter (λ (x : Numbered). p x.plain_edge) (numbered_from (n + 1) us)) (filter (λ (x : Numbered). p x.plain_edge) (numbered_from (n + 1) us)))
         ≡ length (cond b (u ∷ filter p us) (filter p us))
     go true e = ap suc e
     go false e = e
 
 -- the edges of a pair are as many as the pairs that it leads to
-as_many : (pairs : List Pair) (from m n : ℕ) (ts us : List Transition)
+as_many : (pairs : List Pair) (from m n : ℕ) (ts us : List PlainEdge)
     → length (joints_between pairs from (numbered_from m ts) (numbered_from n us)) ≡ length (targets_between ts us)
 as_many pairs from m n [] us = refl
 as_many pairs from m n (t ∷ ts) us =
-    let first : Numbered = record { number = m; transition = t } in
+    let first : Numbered = record { number = m; plain_edge = t } in
     let here : length (joints_with pairs from first (numbered_from n us)) ≡ length (map (λ other. (t.target, other.target)) (partners t us)) =
     length-map (numbered_partners first (numbered_from n us)) (joint_of pairs from first)
     ∙ passing (can_meet t) n us

@@ -11,7 +11,7 @@ use Rattle.omega_hoa_acceptance.specs.declared.name.AccName.{AccName}
 use Rattle.omega_hoa_acceptance.specs.Raw.{RawAccTree}
 use Rattle.omega_lang_product.specs.Pairs.{Pair, first_view, second_view, start_pairs, starts_between}
 use Rattle.omega_lang_product.specs.Written.{raw_items}
-use Rattle.omega_lang_product.specs.Transitions.{View}
+use Rattle.omega_lang_product.specs.PlainEdges.{View}
 use Rattle.omega_lang_product.specs.private.Tables.{view_at}
 use Rattle.omega_lang_product.proofs.Steps.{flat_one}
 

@@ -4,9 +4,9 @@ use Rattle.std.proofs.lemmas.List.Elements.{Contains-append_left, Contains-appen
 use Rattle.omega_hoa_label.specs.Label.{LabelTree, conjunction, constant, disjunction, negation, proposition, propositions, truth}
 use Rattle.omega_hoa_satisfiable.specs.Satisfiable.{IsSatisfiable}
 use Rattle.omega_lang_product.specs.Pairs.{can_meet}
-use Rattle.omega_lang_product.specs.declared.transition.Transition.{Transition}
+use Rattle.omega_lang_product.specs.declared.plain_edge.PlainEdge.{PlainEdge}
 use Rattle.omega_lang_product.proofs.Membership.{Contains-cases, Contains-here, Contains-nothing}
-use Rattle.omega_lang_product.specs.Transitions.{can_hold, is_true_under_some, with_value}
+use Rattle.omega_lang_product.specs.PlainEdges.{can_hold, is_true_under_some, with_value}
 
 -- only the propositions of a label count
 pub truth_same : (held held' : ℕ → Bool) (label : LabelTree) → ((p : ℕ) → Contains (propositions label) p → held p ≡ held' p)
@@ -108,6 +108,6 @@ judged_holds label possible judged = same possible (can_hold label) (λ h. (can_
     same false false there back = refl
 
 -- so is whether two edges can be taken together
-pub meets_as_judged : (transition other : Transition) (label : LabelTree) (possible : Bool) → label ≡ conjunction transition.label other.label
-    → IsTrue possible ↔ IsSatisfiable label → possible ≡ can_meet transition other
-meets_as_judged transition other label possible is judged = judged_holds label possible judged ∙ ap can_hold is
+pub meets_as_judged : (plain_edge other : PlainEdge) (label : LabelTree) (possible : Bool) → label ≡ conjunction plain_edge.label other.label
+    → IsTrue possible ↔ IsSatisfiable label → possible ≡ can_meet plain_edge other
+meets_as_judged plain_edge other label possible is judged = judged_holds label possible judged ∙ ap can_hold is

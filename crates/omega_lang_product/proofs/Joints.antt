@@ -4,7 +4,7 @@ use Rattle.std.specs.List.{flat_map}
 use Rattle.std.proofs.lemmas.List.{map-append, take_all}
 use Rattle.omega_lang_product.specs.JointEdges.{AreJoints, Joint, Numbered, joint_of, marks_of_both, numbered_from}
 use Rattle.omega_lang_product.specs.declared.joint_edges.JointEdges.{JointEdges}
-use Rattle.omega_lang_product.specs.declared.transition.Transition.{Transition}
+use Rattle.omega_lang_product.specs.declared.plain_edge.PlainEdge.{PlainEdge}
 use Rattle.omega_graph.specs.Graph.{edge_of}
 use Rattle.omega_graph.specs.declared.edge.Edge.{Edge}
 use Rattle.std.specs.Prelude.{Result, Ok, Err, OnOk}
@@ -14,25 +14,25 @@ use Rattle.omega_lang_product.specs.private.Adding.{Adds, AddsAmong}
 use Rattle.omega_lang_product.proofs.Reaching.{Extended, extended_number, extends_by}
 use Rattle.omega_lang_product.proofs.Steps.{append_nil, filter_dropped, filter_kept, flat_one}
 
--- edges of a row are as many as their transitions, and in their order
-pub numbered_length : (first : ℕ) (ts : List Transition) → length (numbered_from first ts) ≡ length ts
+-- edges of a row are as many as their plain edges, and in their order
+pub numbered_length : (first : ℕ) (ts : List PlainEdge) → length (numbered_from first ts) ≡ length ts
 numbered_length first [] = refl
 numbered_length first (t ∷ ts) = ap suc (numbered_length (first + 1) ts)
 
-pub numbered_here : (first : ℕ) (ts : List Transition) (i : ℕ) (t : Transition) (d : Numbered) → i < length ts
-    → record { number = first + i; transition = get_or ts i t } ≡ get_or (numbered_from first ts) i d
+pub numbered_here : (first : ℕ) (ts : List PlainEdge) (i : ℕ) (t : PlainEdge) (d : Numbered) → i < length ts
+    → record { number = first + i; plain_edge = get_or ts i t } ≡ get_or (numbered_from first ts) i d
 numbered_here first [] i t d below = absurd (omega (arith, below))
 numbered_here first (x ∷ ts) zero t d below =
     let e : first + 0 ≡ first = omega arith in
-    ap {B = Numbered} (λ (n : ℕ). record { number = n; transition = x }) e
+    ap {B = Numbered} (λ (n : ℕ). record { number = n; plain_edge = x }) e
 numbered_here first (x ∷ ts) (suc i) t d below =
     let e : first + suc i ≡ (first + 1) + i = omega arith in
-    ap {B = Numbered} (λ (n : ℕ). record { number = n; transition = get_or ts i t }) e ∙ numbered_here (first + 1) ts i t d (omega (arith, below))
+    ap {B = Numbered} (λ (n : ℕ). record { number = n; plain_edge = get_or ts i t }) e ∙ numbered_here (first + 1) ts i t d (omega (arith, below))
 
-pub numbered_below : (first : ℕ) (ts : List Transition) (i : ℕ) → i < length ts → i < length (numbered_from first ts)
+pub numbered_below : (first : ℕ) (ts : List PlainEdge) (i : ℕ) → i < length ts → i < length (numbered_from first ts)
 numbered_below first ts i below = omega (arith, below, numbered_length first ts)
 
-pub numbered_all : (first : ℕ) (ts : List Transition) (at : ℕ) → length ts ≤ at → take at (numbered_from first ts) ≡ numbered_from first ts
+pub numbered_all : (first : ℕ) (ts : List PlainEdge) (at : ℕ) → length ts ≤ at → take at (numbered_from first ts) ≡ numbered_from first ts
 numbered_all first ts at past = take_all at (numbered_from first ts) (omega (arith, past, numbered_length first ts))
 
 -- nothing is appended
@@ -103,8 +103,8 @@ found_edges ks more xs pair listed from is (Ok x) pairs with_number joints same 
     subst (λ (js : List Joint). Adds js a b) (ap (with_number (more ++ later)) number ∙ same (more ++ later)) (edges later))
 
 -- a joint edge is pushed, whose target has its number whatever pairs are found later
-pub joint_pushed : (more : List Pair) (from to : ℕ) (first second : Numbered) (marks : List ℕ) → ((later : List Pair) → to ≡ pair_number (more ++ later) (first.transition.target, second.transition.target))
-    → marks ≡ first.transition.marks ++ second.transition.marks → (a b : JointEdges) {T E : Type 0} (result : Result T E)
+pub joint_pushed : (more : List Pair) (from to : ℕ) (first second : Numbered) (marks : List ℕ) → ((later : List Pair) → to ≡ pair_number (more ++ later) (first.plain_edge.target, second.plain_edge.target))
+    → marks ≡ first.plain_edge.marks ++ second.plain_edge.marks → (a b : JointEdges) {T E : Type 0} (result : Result T E)
     → OnOk result (b.ends.items ≡ a.ends.items ++ edge_of from to ∷ []) → OnOk result (b.marks.items ≡ a.marks.items ++ marks ∷ [])
     → OnOk result (b.firsts.items ≡ a.firsts.items ++ first.number ∷ []) → OnOk result (b.seconds.items ≡ a.seconds.items ++ second.number ∷ [])
     → OnOk result (AddsAmong more (λ all. joint_of all from first second ∷ []) a b)

@@ -12,14 +12,15 @@ use Rattle.omega_graph.specs.declared.edge.Edge.{Edge}
 use Rattle.omega_hoa_syntax.specs.declared.raw_edge.RawEdge.{RawEdge}
 use Rattle.omega_hoa_automaton.specs.Automaton.{Description}
 use Rattle.omega_lang_product.specs.JointEdges.{AreJoints, Joint, Numbered, joint_of, joints_between, joints_with, marks_of_both, numbered_from, numbered_partners}
-use Rattle.omega_lang_product.specs.PairGraph.{edges_before, first_numbered, joints_at, joints_of, second_numbered}
+use Rattle.omega_lang_product.specs.PairGraph.{first_numbered, joints_at, joints_of, second_numbered}
+use Rattle.omega_hoa_automaton.specs.Automaton.{edges_before}
 use Rattle.omega_lang_product.specs.Pairs.{Pair, can_meet, first_leaving, pair_number, partners, second_leaving, targets_of}
-use Rattle.omega_lang_product.specs.Product.{joint_edges_of, joint_transitions, taken_together}
+use Rattle.omega_lang_product.specs.Product.{joint_edges_of, joint_plain_edges, taken_together}
 use Rattle.omega_lang_product.specs.Refusing.{AreReachable, HasDeepMeeting}
 use Rattle.omega_lang_product.specs.declared.joint_edges.JointEdges.{JointEdges}
 use Rattle.omega_lang_product.specs.declared.row.Row.{Row}
 use Rattle.omega_lang_product.specs.Written.{raw_edge}
-use Rattle.omega_lang_product.specs.declared.transition.Transition.{Transition}
+use Rattle.omega_lang_product.specs.declared.plain_edge.PlainEdge.{PlainEdge}
 use Rattle.omega_lang_product.specs.private.Explored.{past_before}
 use Rattle.omega_lang_product.specs.private.Labelling.{AreJointsFrom, HasDeepLabel, HasEdge, IsJointAt, edge_numbered, labelled, no_edge}
 use Rattle.omega_lang_product.proofs.Crossing.{all_edges, pair_edges}
@@ -27,30 +28,30 @@ use Rattle.omega_lang_product.proofs.Formulas.{same_default}
 use Rattle.omega_lang_product.proofs.Membership.{Contains-cases, Contains-nothing}
 
 -- joint edges with their labels are the edges of the product
-labelled_with : (pairs : List Pair) (from m n : ℕ) (t : Transition) (us : List Transition)
-    → map (taken_together pairs t) (partners t us) ≡ map labelled (joints_with pairs from (record { number = m; transition = t }) (numbered_from n us))
+labelled_with : (pairs : List Pair) (from m n : ℕ) (t : PlainEdge) (us : List PlainEdge)
+    → map (taken_together pairs t) (partners t us) ≡ map labelled (joints_with pairs from (record { number = m; plain_edge = t }) (numbered_from n us))
 labelled_with pairs from m n t [] = refl
 labelled_with pairs from m n t (u ∷ us) = go (can_meet t u) (labelled_with pairs from m (n + 1) t us)
   where
     first : Numbered
-    first = record { number = m; transition = t }
+    first = record { number = m; plain_edge = t }
 
     x : Numbered
-    x = record { number = n; transition = u }
+    x = record { number = n; plain_edge = u }
 
     others : List Numbered
     others = numbered_partners first (numbered_from (n + 1) us)
 
     go : (b : Bool) → map (taken_together pairs t) (partners t us) ≡ map labelled (map (joint_of pairs from first) others)
         → map (taken_together pairs t) (cond b (u ∷ partners t us) (partners t us)) ≡ map labelled (map (joint_of pairs from first) (cond b (x ∷ others) others))
-    go true e = ap (λ (rest : List Transition). taken_together pairs t u ∷ rest) e
+    go true e = ap (λ (rest : List PlainEdge). taken_together pairs t u ∷ rest) e
     go false e = e
 
-labelled_all : (pairs : List Pair) (from m n : ℕ) (ts us : List Transition)
-    → joint_transitions pairs ts us ≡ map labelled (joints_between pairs from (numbered_from m ts) (numbered_from n us))
+labelled_all : (pairs : List Pair) (from m n : ℕ) (ts us : List PlainEdge)
+    → joint_plain_edges pairs ts us ≡ map labelled (joints_between pairs from (numbered_from m ts) (numbered_from n us))
 labelled_all pairs from m n [] us = refl
 labelled_all pairs from m n (t ∷ ts) us =
-    let first : Numbered = record { number = m; transition = t } in
+    let first : Numbered = record { number = m; plain_edge = t } in
     ap₂ ◌++◌ (labelled_with pairs from m n t us) (labelled_all pairs from (m + 1) n ts us)
     ∙ sym (map-append labelled (joints_with pairs from first (numbered_from n us)) (joints_between pairs from (numbered_from (m + 1) ts) (numbered_from n us)))
 
@@ -58,7 +59,7 @@ labelled_all pairs from m n (t ∷ ts) us =
 pub record IsMade (firsts seconds : List Numbered) (joint : Joint) : Type 0 where
   pub first : Contains firsts joint.first
   pub second : Contains seconds joint.second
-  pub meet : can_meet joint.first.transition joint.second.transition ≡ true
+  pub meet : can_meet joint.first.plain_edge joint.second.plain_edge ≡ true
 
 later_first : (f : Numbered) (firsts seconds : List Numbered) (joint : Joint) → IsMade firsts seconds joint → IsMade (f ∷ firsts) seconds joint
 later_first f firsts seconds joint made = record { first = there f joint.first firsts made.first; second = made.second; meet = made.meet }
@@ -70,7 +71,7 @@ made_with : (pairs : List Pair) (from : ℕ) (f : Numbered) (firsts seconds all 
     → Contains (joints_with pairs from f seconds) joint → IsMade (f ∷ firsts) all joint
 made_with pairs from f firsts [] all joint within listed = absurd (Contains-nothing joint listed)
 made_with pairs from f firsts (s ∷ seconds) all joint within listed =
-    go (can_meet f.transition s.transition) refl listed
+    go (can_meet f.plain_edge s.plain_edge) refl listed
     (λ later. made_with pairs from f firsts seconds all joint (λ x inside. within x (suc inside.0, omega (arith, inside.1), inside.2)) later)
   where
     here : (x : Numbered) (xs : List Numbered) → Contains (x ∷ xs) x
@@ -79,7 +80,7 @@ made_with pairs from f firsts (s ∷ seconds) all joint within listed =
     others : List Numbered
     others = numbered_partners f seconds
 
-    go : (b : Bool) → can_meet f.transition s.transition ≡ b → Contains (map (joint_of pairs from f) (cond b (s ∷ others) others)) joint
+    go : (b : Bool) → can_meet f.plain_edge s.plain_edge ≡ b → Contains (map (joint_of pairs from f) (cond b (s ∷ others) others)) joint
         → (Contains (joints_with pairs from f seconds) joint → IsMade (f ∷ firsts) all joint) → IsMade (f ∷ firsts) all joint
     go true meets inside rest = elim (Contains-cases (joint_of pairs from f s) joint (map (joint_of pairs from f) others) inside) [
       | inl is ↦ subst (IsMade (f ∷ firsts) all) is (record { first = here f firsts; second = within s (here s seconds); meet = meets })
@@ -96,32 +97,32 @@ made_between pairs from (f ∷ firsts) seconds joint listed =
     ]
 
 -- an edge of a row by its number
-record IsInRow (before : ℕ) (ts : List Transition) (x : Numbered) : Type 0 where
+record IsInRow (before : ℕ) (ts : List PlainEdge) (x : Numbered) : Type 0 where
   pub place : ℕ
   pub below : place < length ts
   pub number : x.number ≡ before + place
-  pub is : x.transition ≡ get_or ts place no_edge
+  pub is : x.plain_edge ≡ get_or ts place no_edge
 
-in_row : (before : ℕ) (ts : List Transition) (x : Numbered) → Contains (numbered_from before ts) x → IsInRow before ts x
+in_row : (before : ℕ) (ts : List PlainEdge) (x : Numbered) → Contains (numbered_from before ts) x → IsInRow before ts x
 in_row before [] x listed = absurd (Contains-nothing x listed)
-in_row before (t ∷ ts) x listed = elim (Contains-cases (record { number = before; transition = t }) x (numbered_from (before + 1) ts) listed) [
+in_row before (t ∷ ts) x listed = elim (Contains-cases (record { number = before; plain_edge = t }) x (numbered_from (before + 1) ts) listed) [
   | inl is ↦ record { place = 0; below = omega arith; number = first_number is; is = first_is is }
   | inr later ↦
       let rest = in_row (before + 1) ts x later in
       record { place = suc rest.place; below = omega (arith, rest.below); number = omega (arith, rest.number); is = rest.is }
 ]
   where
-    first_number : record { number = before; transition = t } ≡ x → x.number ≡ before + 0
+    first_number : record { number = before; plain_edge = t } ≡ x → x.number ≡ before + 0
     first_number is = let same : before ≡ before + 0 = omega arith in ap {A = Numbered} (λ (y : Numbered). y.number) (sym is) ∙ same
 
-    first_is : record { number = before; transition = t } ≡ x → x.transition ≡ t
-    first_is is = ap {A = Numbered} (λ (y : Numbered). y.transition) (sym is)
+    first_is : record { number = before; plain_edge = t } ≡ x → x.plain_edge ≡ t
+    first_is is = ap {A = Numbered} (λ (y : Numbered). y.plain_edge) (sym is)
 
 row_has : (row : Row) (x : Numbered) → Contains (numbered_from row.before row.edges.now) x → HasEdge row x.number
 row_has row x listed = let inside = in_row row.before row.edges.now x listed in
     record { after = omega (arith, inside.number); below = omega (arith, inside.number, inside.below) }
 
-row_edge : (row : Row) (x : Numbered) → Contains (numbered_from row.before row.edges.now) x → edge_numbered row x.number ≡ x.transition
+row_edge : (row : Row) (x : Numbered) → Contains (numbered_from row.before row.edges.now) x → edge_numbered row x.number ≡ x.plain_edge
 row_edge row x listed =
     let inside = in_row row.before row.edges.now x listed in
     let place : x.number - row.before ≡ inside.place = omega (arith, inside.number) in
@@ -216,11 +217,11 @@ module _ (one other : Description) (pairs : List Pair) (at : ℕ) (below : at < 
   pub deep_meeting_of : AreReachable one other pairs → HasDeepLabel (joints_at one other pairs (get_or pairs at (0, 0))) → HasDeepMeeting one other
   deep_meeting_of reachable has =
       let is_made = made has.joint has.listed in
-      let first = transition_listed (edges_before one.defined (get_or pairs at (0, 0)).0) (first_leaving one other (get_or pairs at (0, 0))) has.joint.first is_made.first in
-      let second = transition_listed (edges_before other.defined (get_or pairs at (0, 0)).1) (second_leaving one other (get_or pairs at (0, 0))) has.joint.second is_made.second in
+      let first = plain_edge_listed (edges_before one.defined (get_or pairs at (0, 0)).0) (first_leaving one other (get_or pairs at (0, 0))) has.joint.first is_made.first in
+      let second = plain_edge_listed (edges_before other.defined (get_or pairs at (0, 0)).1) (second_leaving one other (get_or pairs at (0, 0))) has.joint.second is_made.second in
       record {
-        transition = has.joint.first.transition;
-        partner = has.joint.second.transition;
+        plain_edge = has.joint.first.plain_edge;
+        partner = has.joint.second.plain_edge;
         met = record {
           pair = get_or pairs at (0, 0);
           reachable = reachable.each (get_or pairs at (0, 0)) (at, below, same_default pairs at (get_or pairs at (0, 0)) (0, 0) below);
@@ -230,13 +231,13 @@ module _ (one other : Description) (pairs : List Pair) (at : ℕ) (below : at < 
         deep = record { meet = is_made.meet; deep = has.deep };
       }
     where
-      transition_listed : (before : ℕ) (ts : List Transition) (x : Numbered) → Contains (numbered_from before ts) x → Contains ts x.transition
-      transition_listed before ts x listed =
-          let inside = in_row before ts x listed in (inside.place, inside.below, same_default ts inside.place x.transition no_edge inside.below ∙ sym inside.is)
+      plain_edge_listed : (before : ℕ) (ts : List PlainEdge) (x : Numbered) → Contains (numbered_from before ts) x → Contains ts x.plain_edge
+      plain_edge_listed before ts x listed =
+          let inside = in_row before ts x listed in (inside.place, inside.below, same_default ts inside.place x.plain_edge no_edge inside.below ∙ sym inside.is)
 
 -- a joint edge of which nothing is known
 pub no_joint : Joint
-no_joint = record { from = 0; to = 0; first = record { number = 0; transition = no_edge }; second = record { number = 0; transition = no_edge } }
+no_joint = record { from = 0; to = 0; first = record { number = 0; plain_edge = no_edge }; second = record { number = 0; plain_edge = no_edge } }
 
 -- the edges of a table, one more
 module _ (edges : JointEdges) (firsts seconds : Row) (start end : ℕ) (joints : List Joint) (are : AreJointsFrom edges firsts seconds start end joints) where

@@ -26,8 +26,8 @@ use Rattle.omega_lang_product.specs.Acceptance.{IsJointAcceptance}
 use Rattle.omega_lang_product.specs.Limits.{IsWithin}
 use Rattle.omega_hoa_edges.specs.Limits.{most_edges, most_states}
 use Rattle.omega_lang_product.specs.Pairs.{AreReached, Pair, first_leaving, pair_number, second_leaving, start_pairs}
-use Rattle.omega_lang_product.specs.Product.{IsJointEdge, IsPairState, IsProduct, joint_transitions}
-use Rattle.omega_lang_product.specs.declared.transition.Transition.{Transition}
+use Rattle.omega_lang_product.specs.Product.{IsJointEdge, IsPairState, IsProduct, joint_plain_edges}
+use Rattle.omega_lang_product.specs.declared.plain_edge.PlainEdge.{PlainEdge}
 use Rattle.omega_lang_product.specs.Written.{IsWrittenProduct, name_items, raw_edge, raw_product, raw_start, raw_state_of}
 use Rattle.omega_lang_product.proofs.Membership.{Contains-here, Contains-nothing}
 
@@ -70,7 +70,7 @@ a_label mean definitions tree (Some meant) none is =
     ap Some (meant_is mean meant tree (subst (λ (ds : List Defined). IsExpansion ds (label_written tree) meant) none is))
 
 -- edges and states
-edges_meant : WrittenLabelsMean → (definitions : List Defined) → definitions ≡ [] → (ts : List Transition) (edges : List Edge) → AllZip (IsEdgeOf definitions) (map raw_edge ts) edges
+edges_meant : WrittenLabelsMean → (definitions : List Defined) → definitions ≡ [] → (ts : List PlainEdge) (edges : List Edge) → AllZip (IsEdgeOf definitions) (map raw_edge ts) edges
     → AllZip IsJointEdge ts edges
 edges_meant mean definitions none [] [] all = tt
 edges_meant mean definitions none [] (edge ∷ edges) all = absurd all
@@ -93,7 +93,7 @@ module _ (mean : WrittenLabelsMean) (formulas : WrittenFormulasMean) (one other 
       name = all.0.name;
       marks = no_marks state.marks all.0.marks;
       edges = edges_meant mean definitions none
-          (joint_transitions pairs (first_leaving one other p) (second_leaving one other p))
+          (joint_plain_edges pairs (first_leaving one other p) (second_leaving one other p))
           state.edges all.0.edges;
     },
     states_meant definitions none ps states all.1,

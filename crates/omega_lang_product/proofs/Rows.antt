@@ -6,31 +6,31 @@ use Rattle.std.proofs.lemmas.List.{length-map, length-take, map-append, take_mor
 use Rattle.std.proofs.lemmas.List.Sums.{sum_by-cons, sum_by_push}
 use Rattle.omega_hoa_automaton.specs.declared.edge.Edge.{Edge}
 use Rattle.omega_hoa_automaton.specs.declared.state.State.{State}
-use Rattle.omega_lang_product.specs.PairGraph.{edges_before}
+use Rattle.omega_hoa_automaton.specs.Automaton.{edges_before}
 use Rattle.omega_lang_product.specs.Pairs.{name_at}
-use Rattle.omega_lang_product.specs.Transitions.{View, transition_of, transitions_at, transitions_from}
+use Rattle.omega_lang_product.specs.PlainEdges.{View, plain_edge_of, plain_edges_at, plain_edges_from}
 use Rattle.omega_lang_product.specs.private.Tables.{AreNumbered, edges_in, firsts_from, row_of}
-use Rattle.omega_lang_product.specs.declared.transition.Transition.{Transition}
+use Rattle.omega_lang_product.specs.declared.plain_edge.PlainEdge.{PlainEdge}
 use Rattle.omega_lang_product.proofs.Membership.{Contains-here, Contains-there}
 
 -- one edge more
 from_more : (view : View) (state : State) (first : ℕ) (edges : List Edge) (edge : Edge)
-    → transitions_from view state first (edges ++ edge ∷ []) ≡ transitions_from view state first edges ++ transition_of view state (first + length edges) edge ∷ []
-from_more view state first [] edge = let e : first ≡ first + 0 = omega arith in ap (λ i. transition_of view state i edge ∷ []) e
+    → plain_edges_from view state first (edges ++ edge ∷ []) ≡ plain_edges_from view state first edges ++ plain_edge_of view state (first + length edges) edge ∷ []
+from_more view state first [] edge = let e : first ≡ first + 0 = omega arith in ap (λ i. plain_edge_of view state i edge ∷ []) e
 from_more view state first (x ∷ edges) edge =
     let e : (first + 1) + length edges ≡ first + length (x ∷ edges) = omega arith in
-    ap (λ (rest : List Transition). transition_of view state first x ∷ rest)
+    ap (λ (rest : List PlainEdge). plain_edge_of view state first x ∷ rest)
     (from_more view state (first + 1) edges edge
-    ∙ ap (λ i. transitions_from view state (first + 1) edges ++ transition_of view state i edge ∷ []) e)
+    ∙ ap (λ i. plain_edges_from view state (first + 1) edges ++ plain_edge_of view state i edge ∷ []) e)
 
-pub transitions_more : (view : View) (state : State) (edges : List Edge) (at : ℕ) (edge : Edge) → at < length edges → edge ≡ get_or edges at edge
-    → transitions_from view state 0 (take (at + 1) edges) ≡ transitions_from view state 0 (take at edges) ++ transition_of view state at edge ∷ []
-transitions_more view state edges at edge below here =
+pub plain_edges_more : (view : View) (state : State) (edges : List Edge) (at : ℕ) (edge : Edge) → at < length edges → edge ≡ get_or edges at edge
+    → plain_edges_from view state 0 (take (at + 1) edges) ≡ plain_edges_from view state 0 (take at edges) ++ plain_edge_of view state at edge ∷ []
+plain_edges_more view state edges at edge below here =
     let long : 0 + length (take at edges) ≡ at = omega (arith, length-take at edges, below) in
-    ap (transitions_from view state 0) (take_more edges at edge below)
-    ∙ ap (λ (e : Edge). transitions_from view state 0 (take at edges ++ e ∷ [])) (sym here)
+    ap (plain_edges_from view state 0) (take_more edges at edge below)
+    ∙ ap (λ (e : Edge). plain_edges_from view state 0 (take at edges ++ e ∷ [])) (sym here)
     ∙ from_more view state 0 (take at edges) edge
-    ∙ ap (λ i. transitions_from view state 0 (take at edges) ++ transition_of view state i edge ∷ []) long
+    ∙ ap (λ i. plain_edges_from view state 0 (take at edges) ++ plain_edge_of view state i edge ∷ []) long
 
 -- the row of a state is at its place
 turned : (m n : ℕ) (b : Bool) → (m == n) ≡ b → nat_eq n m ≡ b
@@ -111,17 +111,17 @@ module _ {X : Type 0} (has : State → X) (nothing : X) (states : List State) (n
           ∙ past_end (map has states) (position_or_len (nat_eq number) numbers) nothing (omega (arith, past, long))
 
 -- what the table says
-row_first : (view : View) (states : List State) (number : ℕ) → transitions_at view states number ≡ first_with (row_of view) [] states number
+row_first : (view : View) (states : List State) (number : ℕ) → plain_edges_at view states number ≡ first_with (row_of view) [] states number
 row_first view [] number = refl
-row_first view (state ∷ states) number = ap (λ (rest : List Transition). if state.number == number then row_of view state else rest) (row_first view states number)
+row_first view (state ∷ states) number = ap (λ (rest : List PlainEdge). if state.number == number then row_of view state else rest) (row_first view states number)
 
 pub row_found : (view : View) (states : List State) (numbers firsts : List ℕ) (number place : ℕ) → AreNumbered states numbers firsts
-    → position (nat_eq number) numbers ≡ Some place → transitions_at view states number ≡ get_or (map (row_of view) states) place []
+    → position (nat_eq number) numbers ≡ Some place → plain_edges_at view states number ≡ get_or (map (row_of view) states) place []
 row_found view states numbers firsts number place are found =
     row_first view states number ∙ found_first (row_of view) [] states numbers number are.numbers_are place found
 
 pub row_missing : (view : View) (states : List State) (numbers firsts : List ℕ) (number : ℕ) → AreNumbered states numbers firsts
-    → position (nat_eq number) numbers ≡ None → transitions_at view states number ≡ []
+    → position (nat_eq number) numbers ≡ None → plain_edges_at view states number ≡ []
 row_missing view states numbers firsts number are missing =
     row_first view states number ∙ missing_first (row_of view) [] states numbers number are.numbers_are missing
 
@@ -215,23 +215,23 @@ numbered_more states at state numbers firsts first below here are counted =
 
 -- an edge is among those of its state
 row_from : (view : View) (state : State) (first : ℕ) (edges : List Edge) (k : ℕ) (edge : Edge) → k < length edges → edge ≡ get_or edges k edge
-    → Contains (transitions_from view state first edges) (transition_of view state (first + k) edge)
+    → Contains (plain_edges_from view state first edges) (plain_edge_of view state (first + k) edge)
 row_from view state first [] k edge below here = absurd (omega (arith, below))
 row_from view state first (x ∷ edges) zero edge below here =
     let index : first ≡ first + 0 = omega arith in
-    let P : Transition → Type 0 = λ t. Contains (transitions_from view state first (x ∷ edges)) t in
-    subst P (ap (transition_of view state first) (sym here) ∙ ap (λ i. transition_of view state i edge) index)
-    (Contains-here (transition_of view state first x) (transitions_from view state (first + 1) edges))
+    let P : PlainEdge → Type 0 = λ t. Contains (plain_edges_from view state first (x ∷ edges)) t in
+    subst P (ap (plain_edge_of view state first) (sym here) ∙ ap (λ i. plain_edge_of view state i edge) index)
+    (Contains-here (plain_edge_of view state first x) (plain_edges_from view state (first + 1) edges))
 row_from view state first (x ∷ edges) (suc k) edge below here =
     let index : (first + 1) + k ≡ first + suc k = omega arith in
-    let P : Transition → Type 0 = λ t. Contains (transitions_from view state first (x ∷ edges)) t in
-    subst P (ap (λ i. transition_of view state i edge) index)
-    (Contains-there (transition_of view state first x) (transition_of view state ((first + 1) + k) edge) (transitions_from view state (first + 1) edges)
+    let P : PlainEdge → Type 0 = λ t. Contains (plain_edges_from view state first (x ∷ edges)) t in
+    subst P (ap (λ i. plain_edge_of view state i edge) index)
+    (Contains-there (plain_edge_of view state first x) (plain_edge_of view state ((first + 1) + k) edge) (plain_edges_from view state (first + 1) edges)
     (row_from view state (first + 1) edges k edge (omega (arith, below)) here))
 
 pub row_contains : (view : View) (state : State) (at : ℕ) (edge : Edge) → at < length state.edges → edge ≡ get_or state.edges at edge
-    → Contains (transitions_from view state 0 state.edges) (transition_of view state at edge)
+    → Contains (plain_edges_from view state 0 state.edges) (plain_edge_of view state at edge)
 row_contains view state at edge below here =
     let index : 0 + at ≡ at = omega arith in
-    let P : Transition → Type 0 = λ t. Contains (transitions_from view state 0 state.edges) t in
-    subst P (ap (λ i. transition_of view state i edge) index) (row_from view state 0 state.edges at edge below here)
+    let P : PlainEdge → Type 0 = λ t. Contains (plain_edges_from view state 0 state.edges) t in
+    subst P (ap (λ i. plain_edge_of view state i edge) index) (row_from view state 0 state.edges at edge below here)

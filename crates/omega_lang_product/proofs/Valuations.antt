@@ -10,8 +10,8 @@ use Rattle.omega_hoa_edges.proofs.Bits.{and_parts, one_index}
 use Rattle.omega_hoa_edges.proofs.FullStates.{IsFull, edge_label, full_parts}
 use Rattle.omega_hoa_satisfiable.specs.Satisfiable.{IsSatisfiable}
 use Rattle.omega_lang_product.specs.Pairs.{can_meet}
-use Rattle.omega_lang_product.specs.Transitions.{View, transition_of, transitions_from}
-use Rattle.omega_lang_product.specs.declared.transition.Transition.{Transition}
+use Rattle.omega_lang_product.specs.PlainEdges.{View, plain_edge_of, plain_edges_from}
+use Rattle.omega_lang_product.specs.declared.plain_edge.PlainEdge.{PlainEdge}
 use Rattle.omega_lang_product.specs.private.Meeting.{AreByValuation, MeetByIndex}
 use Rattle.omega_lang_product.specs.private.Tables.{row_of, view_at}
 use Rattle.omega_lang_product.proofs.Holding.{can_hold_iff}
@@ -36,7 +36,7 @@ module _ (places : List ℕ) (i j : ℕ) (below : i < 2 ^ length places) (beneat
       (sym (truth_relabelled places held (valuation_label i (length places))) ∙ parts.0)
       (sym (truth_relabelled places held (valuation_label j (length places))) ∙ parts.1)
 
-  apart : (one other : Transition) → one.label ≡ relabelled places (valuation_label i (length places)) → other.label ≡ relabelled places (valuation_label j (length places))
+  apart : (one other : PlainEdge) → one.label ≡ relabelled places (valuation_label i (length places)) → other.label ≡ relabelled places (valuation_label j (length places))
       → i ≢ j → can_meet one other ≡ false
   apart one other first second different = go (can_meet one other) refl
     where
@@ -46,7 +46,7 @@ module _ (places : List ℕ) (i j : ℕ) (below : i < 2 ^ length places) (beneat
           absurd (different (one_valuation (subst (λ (l : LabelTree). IsSatisfiable (conjunction l (relabelled places (valuation_label j (length places))))) first
           (subst (λ (l : LabelTree). IsSatisfiable (conjunction one.label l)) second ((can_hold_iff (conjunction one.label other.label)).0 e)))))
 
-pub by_index : (places : List ℕ) (ones others : List Transition) → AreByValuation places ones → AreByValuation places others → MeetByIndex ones others
+pub by_index : (places : List ℕ) (ones others : List PlainEdge) → AreByValuation places ones → AreByValuation places others → MeetByIndex ones others
 by_index places ones others first second index one here = record {
   there = below others second;
   apart = λ place other there different.
@@ -58,39 +58,39 @@ by_index places ones others first second index one here = record {
     within : index < 2 ^ length places
     within = subst (λ n. index < n) first.many (slice_get_within ones index one here)
 
-    below : (ts : List Transition) → AreByValuation places ts → index < length ts
+    below : (ts : List PlainEdge) → AreByValuation places ts → index < length ts
     below ts are = subst (λ n. index < n) (sym are.many) within
 
 -- the edges of a state, by their indices
-transitions_there : (view : View) (state : State) (first : ℕ) (edges : List Edge) (k : ℕ) (transition : Transition) → slice_get (transitions_from view state first edges) k ≡ Some transition
-    → (edge : Edge) × ((slice_get edges k ≡ Some edge) × (transition ≡ transition_of view state (first + k) edge))
-transitions_there view state first [] k transition e = absurd (never e)
+plain_edges_there : (view : View) (state : State) (first : ℕ) (edges : List Edge) (k : ℕ) (plain_edge : PlainEdge) → slice_get (plain_edges_from view state first edges) k ≡ Some plain_edge
+    → (edge : Edge) × ((slice_get edges k ≡ Some edge) × (plain_edge ≡ plain_edge_of view state (first + k) edge))
+plain_edges_there view state first [] k plain_edge e = absurd (never e)
   where
     never : {X : Type 0} {x : X} → None ≡ Some x → ⊥
     never f = cc
-transitions_there view state first (edge ∷ edges) zero transition e =
+plain_edges_there view state first (edge ∷ edges) zero plain_edge e =
     let last : first ≡ first + 0 = omega arith in
-    (edge, (refl, sym (same e) ∙ ap (λ i. transition_of view state i edge) last))
+    (edge, (refl, sym (same e) ∙ ap (λ i. plain_edge_of view state i edge) last))
   where
     same : {X : Type 0} {x y : X} → Some x ≡ Some y → x ≡ y
     same f = cc
-transitions_there view state first (edge ∷ edges) (suc k) transition e =
-    let found = transitions_there view state (first + 1) edges k transition e in
+plain_edges_there view state first (edge ∷ edges) (suc k) plain_edge e =
+    let found = plain_edges_there view state (first + 1) edges k plain_edge e in
     let next : (first + 1) + k ≡ first + suc k = omega arith in
-    (found.0, (found.1.0, found.1.1 ∙ ap (λ i. transition_of view state i found.0) next))
+    (found.0, (found.1.0, found.1.1 ∙ ap (λ i. plain_edge_of view state i found.0) next))
 
-transitions_length : (view : View) (state : State) (first : ℕ) (edges : List Edge) → length (transitions_from view state first edges) ≡ length edges
-transitions_length view state first [] = refl
-transitions_length view state first (edge ∷ edges) = ap suc (transitions_length view state (first + 1) edges)
+plain_edges_length : (view : View) (state : State) (first : ℕ) (edges : List Edge) → length (plain_edges_from view state first edges) ≡ length edges
+plain_edges_length view state first [] = refl
+plain_edges_length view state first (edge ∷ edges) = ap suc (plain_edges_length view state (first + 1) edges)
 
 -- a state that has an edge for each valuation and no labels
 pub full_row : (places : List ℕ) (before : ℕ) (state : State) → is_full (length places) state ≡ true → AreByValuation places (row_of (view_at places before) state)
 full_row places before state is = record {
-  many = transitions_length (view_at places before) state 0 state.edges ∙ full.many;
-  labels = λ index transition there.
-      (let found = transitions_there (view_at places before) state 0 state.edges index transition there in
+  many = plain_edges_length (view_at places before) state 0 state.edges ∙ full.many;
+  labels = λ index plain_edge there.
+      (let found = plain_edges_there (view_at places before) state 0 state.edges index plain_edge there in
       let first : 0 + index ≡ index = omega arith in
-      ap (λ (t : Transition). t.label) (found.1.1 ∙ ap (λ i. transition_of (view_at places before) state i found.0) first) ∙ ap (relabelled places) (edge_label (length places) state index found.0 full found.1.0));
+      ap (λ (t : PlainEdge). t.label) (found.1.1 ∙ ap (λ i. plain_edge_of (view_at places before) state i found.0) first) ∙ ap (relabelled places) (edge_label (length places) state index found.0 full found.1.0));
 }
   where
     full : IsFull (length places) state

@@ -5,23 +5,23 @@ use Rattle.std.specs.List.{flat_map}
 use Rattle.omega_graph.specs.Graph.{edge_of}
 use Rattle.omega_lang_product.specs.Pairs.{Pair, can_meet, pair_number}
 use Rattle.omega_lang_product.specs.declared.joint_edges.JointEdges.{JointEdges}
-use Rattle.omega_lang_product.specs.declared.transition.Transition.{Transition}
+use Rattle.omega_lang_product.specs.declared.plain_edge.PlainEdge.{PlainEdge}
 
 -- an edge of an automaton, by its number there and as a product sees it
 pub record Numbered : Type 0 where
   pub number : ℕ
-  pub transition : Transition
+  pub plain_edge : PlainEdge
 
 -- edges whose numbers follow each other from `first` on
-abbrev pub numbered_from : ℕ → List Transition → List Numbered
+abbrev pub numbered_from : ℕ → List PlainEdge → List Numbered
 numbered_from first [] = []
-numbered_from first (transition ∷ transitions) =
-    record { number = first; transition = transition } ∷ numbered_from (first + 1) transitions
+numbered_from first (plain_edge ∷ plain_edges) =
+    record { number = first; plain_edge = plain_edge } ∷ numbered_from (first + 1) plain_edges
 
 -- the edges of the second that can be taken together with an edge of the first
 abbrev pub numbered_partners : Numbered → List Numbered → List Numbered
 numbered_partners first seconds =
-    filter (λ second. can_meet first.transition second.transition) seconds
+    filter (λ second. can_meet first.plain_edge second.plain_edge) seconds
 
 -- an edge of the product: the numbers of the pairs that it leads between, and the two edges that it takes together
 pub record Joint : Type 0 where
@@ -34,7 +34,7 @@ pub record Joint : Type 0 where
 abbrev pub joint_of : List Pair → ℕ → Numbered → Numbered → Joint
 joint_of pairs from first second = record {
   from = from;
-  to = pair_number pairs (first.transition.target, second.transition.target);
+  to = pair_number pairs (first.plain_edge.target, second.plain_edge.target);
   first = first;
   second = second;
 }
@@ -52,7 +52,7 @@ joints_between pairs from firsts seconds =
 
 -- the marks of both edges
 abbrev pub marks_of_both : Joint → List ℕ
-marks_of_both joint = joint.first.transition.marks ++ joint.second.transition.marks
+marks_of_both joint = joint.first.plain_edge.marks ++ joint.second.plain_edge.marks
 
 -- the columns of a table have these edges, one in each row
 pub record AreJoints (joints : List Joint) (edges : JointEdges) : Type 0 where

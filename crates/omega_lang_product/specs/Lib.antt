@@ -2,7 +2,7 @@
 pub use Rattle.omega_text.specs.Cases
 pub use Rattle.omega_text.specs.Refusal
 pub mod Joining
-pub mod Transitions
+pub mod PlainEdges
 pub mod Pairs
 pub mod Acceptance
 pub mod Product

@@ -1,27 +1,21 @@
 -- The graph of the product of two automata: its edges between the reachable pairs, without their labels, and the edges
 -- of both that each of them takes together.
-use Rattle.std.specs.Prelude.{◌≡◌, ◌==◌, ℕ, ◌+◌, if◌then◌else◌, List, [], ◌∷◌, length, map}
+use Rattle.std.specs.Prelude.{◌≡◌, ℕ, List, length, map}
 use Rattle.std.specs.List.{flat_map}
-use Rattle.omega_hoa_automaton.specs.Automaton.{Description}
+use Rattle.omega_hoa_automaton.specs.Automaton.{Description, edges_before}
 use Rattle.omega_hoa_automaton.specs.declared.state.State.{State}
 use Rattle.omega_lang_product.specs.Acceptance.{IsJointFormula}
 use Rattle.omega_lang_product.specs.JointEdges.{AreJoints, Joint, Numbered, joints_between, numbered_from}
 use Rattle.omega_lang_product.specs.Joining.{joined_names}
 use Rattle.omega_lang_product.specs.Pairs.{AreReached, Pair, first_view}
 use Rattle.omega_lang_product.specs.Pairs.{pair_number, second_view, start_pairs}
-use Rattle.omega_lang_product.specs.Transitions.{View, transitions_at}
+use Rattle.omega_lang_product.specs.PlainEdges.{View, plain_edges_at}
 use Rattle.omega_lang_product.specs.declared.graph.PairGraph.{PairGraph}
-
--- how many edges there are before those of the first state with a number
-abbrev pub edges_before : List State → ℕ → ℕ
-edges_before [] number = 0
-edges_before (state ∷ states) number =
-    if state.number == number then 0 else length state.edges + edges_before states number
 
 -- the edges of the first state with a number, by their numbers and as a product sees them
 abbrev pub numbered_at : View → List State → ℕ → List Numbered
 numbered_at view states number =
-    numbered_from (edges_before states number) (transitions_at view states number)
+    numbered_from (edges_before states number) (plain_edges_at view states number)
 
 -- the edges of the first that leave the first state of a pair, and those of the second that leave the second
 abbrev pub first_numbered : Description → Description → Pair → List Numbered

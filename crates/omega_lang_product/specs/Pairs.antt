@@ -7,8 +7,8 @@ use Rattle.omega_hoa_label.specs.Label.{conjunction}
 use Rattle.omega_hoa_automaton.specs.Automaton.{Description}
 use Rattle.omega_hoa_automaton.specs.declared.state.State.{State}
 use Rattle.omega_lang_product.specs.Joining.{joined_names, places_among}
-use Rattle.omega_lang_product.specs.Transitions.{View, can_hold, transitions_at}
-use Rattle.omega_lang_product.specs.declared.transition.Transition.{Transition}
+use Rattle.omega_lang_product.specs.PlainEdges.{View, can_hold, plain_edges_at}
+use Rattle.omega_lang_product.specs.declared.plain_edge.PlainEdge.{PlainEdge}
 
 -- a state of the first automaton and one of the second
 abbrev pub Pair : Type 0
@@ -35,30 +35,30 @@ second_view one other = record {
 }
 
 -- whether an edge of the first and one of the second can be taken together: some values make both labels true
-abbrev pub can_meet : Transition → Transition → Bool
-can_meet transition other = can_hold (conjunction transition.label other.label)
+abbrev pub can_meet : PlainEdge → PlainEdge → Bool
+can_meet plain_edge other = can_hold (conjunction plain_edge.label other.label)
 
 -- the edges of the second that can be taken together with an edge of the first
-abbrev pub partners : Transition → List Transition → List Transition
-partners transition others = filter (can_meet transition) others
+abbrev pub partners : PlainEdge → List PlainEdge → List PlainEdge
+partners plain_edge others = filter (can_meet plain_edge) others
 
 -- the pairs that an edge of the first leads to with an edge of a list
-abbrev pub targets_with : Transition → List Transition → List Pair
-targets_with transition others =
-    map (λ other. (transition.target, other.target)) (partners transition others)
+abbrev pub targets_with : PlainEdge → List PlainEdge → List Pair
+targets_with plain_edge others =
+    map (λ other. (plain_edge.target, other.target)) (partners plain_edge others)
 
 -- the pairs that two edges lead to, one of each list
-abbrev pub targets_between : List Transition → List Transition → List Pair
-targets_between transitions others =
-    flat_map (λ transition. targets_with transition others) transitions
+abbrev pub targets_between : List PlainEdge → List PlainEdge → List Pair
+targets_between plain_edges others =
+    flat_map (λ plain_edge. targets_with plain_edge others) plain_edges
 
 -- the edges of the first that leave the first state of a pair
-abbrev pub first_leaving : Description → Description → Pair → List Transition
-first_leaving one other pair = transitions_at (first_view one other) one.defined pair.0
+abbrev pub first_leaving : Description → Description → Pair → List PlainEdge
+first_leaving one other pair = plain_edges_at (first_view one other) one.defined pair.0
 
 -- the edges of the second that leave the second state of a pair
-abbrev pub second_leaving : Description → Description → Pair → List Transition
-second_leaving one other pair = transitions_at (second_view one other) other.defined pair.1
+abbrev pub second_leaving : Description → Description → Pair → List PlainEdge
+second_leaving one other pair = plain_edges_at (second_view one other) other.defined pair.1
 
 -- the pairs that a pair leads to in one step
 abbrev pub targets_of : Description → Description → Pair → List Pair

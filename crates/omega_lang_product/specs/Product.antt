@@ -10,36 +10,36 @@ use Rattle.omega_lang_product.specs.Acceptance.{IsJointAcceptance}
 use Rattle.omega_lang_product.specs.Joining.{joined_names}
 use Rattle.omega_lang_product.specs.Pairs.{AreReached, Pair, first_leaving, pair_name}
 use Rattle.omega_lang_product.specs.Pairs.{pair_number, partners, second_leaving, start_pairs}
-use Rattle.omega_lang_product.specs.declared.transition.Transition.{Transition}
+use Rattle.omega_lang_product.specs.declared.plain_edge.PlainEdge.{PlainEdge}
 
 -- the joint edge of an edge of the first and one of the second: its label has the conjuncts of both, each once
-abbrev pub taken_together : List Pair → Transition → Transition → Transition
-taken_together pairs transition other = record {
-  label = joined transition.label other.label;
-  target = pair_number pairs (transition.target, other.target);
-  marks = transition.marks ++ other.marks;
+abbrev pub taken_together : List Pair → PlainEdge → PlainEdge → PlainEdge
+taken_together pairs plain_edge other = record {
+  label = joined plain_edge.label other.label;
+  target = pair_number pairs (plain_edge.target, other.target);
+  marks = plain_edge.marks ++ other.marks;
 }
 
 -- the joint edges of an edge of the first with those of a list
-abbrev pub joint_with : List Pair → Transition → List Transition → List Transition
-joint_with pairs transition others =
-    map (taken_together pairs transition) (partners transition others)
+abbrev pub joint_with : List Pair → PlainEdge → List PlainEdge → List PlainEdge
+joint_with pairs plain_edge others =
+    map (taken_together pairs plain_edge) (partners plain_edge others)
 
 -- the joint edges of two states, in the order of those of the first, and for each in the order of those of the second
-abbrev pub joint_transitions : List Pair → List Transition → List Transition → List Transition
-joint_transitions pairs transitions others =
-    flat_map (λ transition. joint_with pairs transition others) transitions
+abbrev pub joint_plain_edges : List Pair → List PlainEdge → List PlainEdge → List PlainEdge
+joint_plain_edges pairs plain_edges others =
+    flat_map (λ plain_edge. joint_with pairs plain_edge others) plain_edges
 
 -- the joint edges of the two states of a pair
-abbrev pub joint_edges_of : Description → Description → List Pair → Pair → List Transition
+abbrev pub joint_edges_of : Description → Description → List Pair → Pair → List PlainEdge
 joint_edges_of one other pairs pair =
-    joint_transitions pairs (first_leaving one other pair) (second_leaving one other pair)
+    joint_plain_edges pairs (first_leaving one other pair) (second_leaving one other pair)
 
 -- an edge of the product
-pub record IsJointEdge (transition : Transition) (edge : Edge) : Type 0 where
-  pub label : edge.label ≡ Some transition.label
-  pub targets : edge.targets ≡ transition.target ∷ []
-  pub marks : AreMarksOf transition.marks edge.marks
+pub record IsJointEdge (plain_edge : PlainEdge) (edge : Edge) : Type 0 where
+  pub label : edge.label ≡ Some plain_edge.label
+  pub targets : edge.targets ≡ plain_edge.target ∷ []
+  pub marks : AreMarksOf plain_edge.marks edge.marks
 
 -- a state of the product: a pair, by its number and its name, with the joint edges of its two states
 pub record IsPairState (one other : Description) (pairs : List Pair) (pair : Pair)

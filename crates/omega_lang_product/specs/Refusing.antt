@@ -30,7 +30,7 @@ use Rattle.omega_lang_product.specs.Limits.{most_joint_sets}
 use Rattle.omega_lang_product.specs.Pairs.{Pair, can_meet, first_leaving, same_pair}
 use Rattle.omega_lang_product.specs.Pairs.{second_leaving, start_pairs, targets_of}
 use Rattle.omega_lang_product.specs.Written.{IsWrittenProduct}
-use Rattle.omega_lang_product.specs.declared.transition.Transition.{Transition}
+use Rattle.omega_lang_product.specs.declared.plain_edge.PlainEdge.{PlainEdge}
 use Rattle.omega_hoa_syntax.specs.declared.raw_automaton.RawAutomaton.{RawAutomaton}
 use Rattle.omega_hoa_edges.specs.Limits.{most_edges, most_states}
 
@@ -50,43 +50,43 @@ pub record AreReachable (one other : Description) (pairs : List Pair) : Type 0 w
   pub each : (pair : Pair) → Contains pairs pair → IsReachable one other pair
 
 -- an edge of the first and one of the second, which leave the two states of a reachable pair
-pub record AreMet (one other : Description) (transition partner : Transition) : Type 0 where
+pub record AreMet (one other : Description) (plain_edge partner : PlainEdge) : Type 0 where
   pub pair : Pair
   pub reachable : IsReachable one other pair
-  pub first : Contains (first_leaving one other pair) transition
+  pub first : Contains (first_leaving one other pair) plain_edge
   pub second : Contains (second_leaving one other pair) partner
 
 -- it may be left undecided whether two such edges can be taken together
 pub record HasUndecidedMeeting (one other : Description) : Type 0 where
-  pub transition : Transition
-  pub partner : Transition
-  pub met : AreMet one other transition partner
-  pub hard : IsHardLabel (conjunction transition.label partner.label)
+  pub plain_edge : PlainEdge
+  pub partner : PlainEdge
+  pub met : AreMet one other plain_edge partner
+  pub hard : IsHardLabel (conjunction plain_edge.label partner.label)
 
 -- the labels of two such edges are together too deep or too large to be judged
 pub record HasUnfitMeeting (one other : Description) : Type 0 where
-  pub transition : Transition
-  pub partner : Transition
-  pub met : AreMet one other transition partner
-  pub unfit : FitsALabel (conjunction transition.label partner.label) → ⊥
+  pub plain_edge : PlainEdge
+  pub partner : PlainEdge
+  pub met : AreMet one other plain_edge partner
+  pub unfit : FitsALabel (conjunction plain_edge.label partner.label) → ⊥
 
 -- two edges can be taken together, and their joint label, as it is written, is too deep
-pub record AreDeepTogether (transition partner : Transition) : Type 0 where
-  pub meet : can_meet transition partner ≡ true
-  pub deep : most_depth < raw_depth (label_written (joined transition.label partner.label))
+pub record AreDeepTogether (plain_edge partner : PlainEdge) : Type 0 where
+  pub meet : can_meet plain_edge partner ≡ true
+  pub deep : most_depth < raw_depth (label_written (joined plain_edge.label partner.label))
 
 -- two such edges can be taken together, and their joint label is too deep
 pub record HasDeepMeeting (one other : Description) : Type 0 where
-  pub transition : Transition
-  pub partner : Transition
-  pub met : AreMet one other transition partner
-  pub deep : AreDeepTogether transition partner
+  pub plain_edge : PlainEdge
+  pub partner : PlainEdge
+  pub met : AreMet one other plain_edge partner
+  pub deep : AreDeepTogether plain_edge partner
 
 -- some edge, as a product sees it, has a label that is too deep or too large
-pub record HasUnfitEdge (transitions : List Transition) : Type 0 where
-  pub transition : Transition
-  pub listed : Contains transitions transition
-  pub unfit : FitsALabel transition.label → ⊥
+pub record HasUnfitEdge (plain_edges : List PlainEdge) : Type 0 where
+  pub plain_edge : PlainEdge
+  pub listed : Contains plain_edges plain_edge
+  pub unfit : FitsALabel plain_edge.label → ⊥
 
 -- an edge that leaves a state of a pair has such a label
 abbrev pub HasUnfitAt : Description → Description → Pair → Type 0
@@ -112,7 +112,7 @@ pub record HasManyEdges (one other : Description) : Type 0 where
   pub many : most_edges < sum_by (λ pair. length (targets_of one other pair)) pairs
 
 -- the product, as it is written, breaks a limit of automata
-pub record BreaksLimit (one other : Description) : Type 0 where
+pub record ProductBreaksLimit (one other : Description) : Type 0 where
   pub written : RawAutomaton
   pub product : IsWrittenProduct one other written
   pub fault : AutomatonFault
@@ -136,7 +136,7 @@ pub data IsProductTooLarge (one other : Description) : Type 0 where
   deep_acceptance : most_depth < raw_acc_depth (acc_written (conjoined_acceptance one other))
       → IsProductTooLarge one other
   deep_meeting : HasDeepMeeting one other → IsProductTooLarge one other
-  broken_limit : BreaksLimit one other → IsProductTooLarge one other
+  broken_limit : ProductBreaksLimit one other → IsProductTooLarge one other
 
 -- `UniversalBranch` if there is universal branching, otherwise `TooManyPropositions`, or `TooLarge` for a reason
 abbrev pub IsPairsFault : Type 0 → Description → Description → TaskFault → Type 0

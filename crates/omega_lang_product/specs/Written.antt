@@ -1,12 +1,13 @@
 -- A product as a text writes it, before it is judged. Labels and the acceptance have parentheses only where they need
 -- them.
-use Rattle.std.specs.Prelude.{◌≡◌, ℕ, ◌+◌, List, [], ◌∷◌, ◌++◌, length, map, Option, Some, None, codes}
+use Rattle.std.specs.Prelude.{◌≡◌, ℕ, ◌+◌, List, [], ◌∷◌, ◌++◌, length, map, Option, Some, None}
 use Rattle.omega_hoa_acceptance.specs.Acceptance.{AccTree}
 use Rattle.omega_hoa_acceptance.specs.Raw.{RawAccTree}
 use Rattle.omega_hoa_label.specs.Writing.{label_written}
 use Rattle.omega_hoa_acceptance.specs.Writing.{acc_written}
 use Rattle.omega_hoa_acceptance.specs.declared.name.AccName.{AccName}
 use Rattle.omega_hoa_automaton.specs.Automaton.{Description}
+use Rattle.omega_hoa_automaton.specs.Written.{raw_automaton}
 use Rattle.omega_hoa_automaton.specs.Meaning.{Means}
 use Rattle.omega_hoa_syntax.specs.declared.raw_automaton.RawAutomaton.{RawAutomaton}
 use Rattle.omega_hoa_syntax.specs.declared.raw_edge.RawEdge.{RawEdge}
@@ -17,14 +18,14 @@ use Rattle.omega_lang_product.specs.Joining.{joined_names}
 use Rattle.omega_lang_product.specs.Pairs.{AreReached, Pair, pair_name, pair_number, start_pairs}
 use Rattle.omega_lang_product.specs.Acceptance.{IsJointAcceptance}
 use Rattle.omega_lang_product.specs.Product.{joint_edges_of}
-use Rattle.omega_lang_product.specs.declared.transition.Transition.{Transition}
+use Rattle.omega_lang_product.specs.declared.plain_edge.PlainEdge.{PlainEdge}
 
 -- an edge
-abbrev pub raw_edge : Transition → RawEdge
-raw_edge transition = record {
-  label = Some (label_written transition.label);
-  targets = transition.target ∷ [];
-  marks = Some transition.marks;
+abbrev pub raw_edge : PlainEdge → RawEdge
+raw_edge plain_edge = record {
+  label = Some (label_written plain_edge.label);
+  targets = plain_edge.target ∷ [];
+  marks = Some plain_edge.marks;
 }
 
 -- the state of a pair
@@ -58,17 +59,13 @@ raw_items names sets name formula starts pairs = (item.States (length pairs)
     ∷ item.Propositions (length names) names ∷ item.Acceptance sets formula ∷ [])
     ++ name_items name ++ map (raw_start pairs) starts
 
--- an automaton with a header and a body
-abbrev pub raw_of : List RawItem → List RawState → RawAutomaton
-raw_of items states = record { version = codes "v1"; items = items; states = states }
-
 -- the product of two automata with these pairs and this acceptance
 abbrev pub raw_product : Description → Description → List Pair → Option AccName
     → RawAccTree → RawAutomaton
 raw_product one other pairs name formula =
     let names = joined_names one.propositions other.propositions in
     let items = raw_items names (one.sets + other.sets) name formula (start_pairs one other) pairs in
-    raw_of items (raw_states one other pairs)
+    raw_automaton items (raw_states one other pairs)
 
 -- this is the acceptance of a product, as a text writes it
 pub record IsAcceptanceWritten (one other : Description) (name : Option AccName)

@@ -67,9 +67,10 @@ fn buchi_of_both(
     })
 }
 
-/// Returns the name of the acceptance in which each of `sets` sets has to recur.
+/// Returns the name of the acceptance in which each of `sets` sets has to recur: `all`, `Buchi` or `generalized-Buchi`
+/// (HOA v1, acceptance names).
 #[tactic(auto, using(crate::proofs::Recurring::named_many))]
-fn buchi_name(alloc: Global, sets: u32) -> Result<AccName, Refusal>
+pub fn buchi_name(alloc: Global, sets: u32) -> Result<AccName, Refusal>
     ensures ok { IfOk result (λ name. name ≡ name_of_buchi sets) }
     ensures memory { IsOkUnless result Refusal.Memory }
 {
@@ -96,8 +97,8 @@ fn name_of(alloc: Global, word: &[u8], parameters: Vec<Parameter>) -> Result<Acc
     })
 }
 
-/// Returns the formula in which each of `sets` sets has to recur.
-fn buchi_formula(alloc: Global, sets: u32) -> Result<RawAcc, Refusal>
+/// Returns the formula in which each of `sets` sets has to recur, at most 256 of them.
+pub fn buchi_formula(alloc: Global, sets: u32) -> Result<RawAcc, Refusal>
     requires { sets ≤ most_depth }
     ensures ok { IfOk result (λ formula. formula ≡ acc_written (buchi_formula sets)) }
     ensures memory { IsOkUnless result Refusal.Memory }

@@ -14,7 +14,8 @@ ghost use Rattle.omega_lang_product.specs.private.Operands.{AreTabled, AreTables
 ghost use Rattle.omega_lang_product.specs.Product.{IsProduct};
 ghost use Rattle.omega_lang_product.specs.Refusing.{HaveNoBranch, IsProductRefusal};
 ghost use Rattle.omega_hoa_edges.specs.Fitting.{IsLarge};
-ghost use Rattle.omega_lang_product.specs.Written.{IsWritten, IsWrittenProduct, raw_of};
+ghost use Rattle.omega_lang_product.specs.Written.{IsWritten, IsWrittenProduct};
+ghost use Rattle.omega_hoa_automaton.specs.Written.{raw_automaton};
 
 use crate::acceptance::joint_acceptance;
 use crate::explored::Explored;
@@ -231,7 +232,7 @@ fn raw_automaton_of(
     items: Vec<RawItem>,
     states: Vec<RawState>,
 ) -> Result<RawAutomaton, Refusal>
-    ensures ok { IfOk result (λ raw. raw ≡ raw_of items.items states.items) }
+    ensures ok { IfOk result (λ raw. raw ≡ raw_automaton items.items states.items) }
     ensures memory { IsOkUnless result Refusal.Memory }
 {
     let version = ByteString::from_slice(alloc, b"v1")?;

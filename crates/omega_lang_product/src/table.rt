@@ -4,7 +4,7 @@ ghost use Rattle.std.specs.List.{list_any};
 ghost use Rattle.omega_hoa_edges.specs.Fitting.{IsLarge};
 ghost use Rattle.omega_lang_product.specs.Limits.{most_joint_sets};
 ghost use Rattle.omega_lang_product.specs.Refusing.{HasUnfitEdge};
-ghost use Rattle.omega_lang_product.specs.Transitions.{View, transitions_at};
+ghost use Rattle.omega_lang_product.specs.PlainEdges.{View, plain_edges_at};
 ghost use Rattle.omega_lang_product.specs.private.Meeting.{AreByValuation};
 ghost use Rattle.omega_lang_product.specs.private.Room.{HasRoom};
 ghost use Rattle.omega_lang_product.specs.private.Tables.{AreNumbered, HasRow, IsRowIn, IsTableOf};
@@ -14,7 +14,7 @@ use crate::numbers::number_after;
 use crate::renumbering::Renumbering;
 use crate::row::Row;
 use crate::tabled::Tabled;
-use crate::transitions::transitions_of;
+use crate::plain_edges::plain_edges_of;
 use indexmap::IndexSet;
 use omega_hoa_automaton::{Automaton, State};
 use omega_hoa_edges::is_full;
@@ -82,7 +82,7 @@ impl Table {
             ((earlier : ℕ) → HasRow self.old earlier → HasRow self.new earlier) }
         ensures err { IfErr result
             (λ refusal. (view : View) → IsTableOf view automaton.now.defined self.old
-            → IsLarge (HasUnfitEdge (transitions_at view automaton.now.defined number)) refusal) }
+            → IsLarge (HasUnfitEdge (plain_edges_at view automaton.now.defined number)) refusal) }
     {
         automaton.keeps_limits();
         let Some(place) = self.numbers.get_index_of(&number) else {
@@ -107,7 +107,7 @@ impl Table {
             places: self.places.as_slice(),
             before: self.before,
         };
-        transitions_of(alloc, state, &renumbering)
+        plain_edges_of(alloc, state, &renumbering)
     }
 
     /// Whether the state with the number `number` has an edge for each valuation of the propositions of `automaton`,
@@ -115,7 +115,7 @@ impl Table {
     pub(crate) fn is_full_at(&self, automaton: &Automaton, number: u32) -> bool
         requires { (view : View) × IsTableOf view automaton.now.defined self.now }
         ensures { result ≡ true → AreByValuation self.now.places.items
-            (transitions_at (view_in self.now) automaton.now.defined number) }
+            (plain_edges_at (view_in self.now) automaton.now.defined number) }
     {
         match self.numbers.get_index_of(&number) {
             Some(place) => {

@@ -6,7 +6,7 @@ ghost use Rattle.omega_hoa_edges.specs.Summaries.{IsSummaryOf};
 ghost use Rattle.omega_lang_product.specs.Pairs.{can_meet};
 ghost use Rattle.omega_lang_product.specs.private.Meeting.{IsUnmet};
 
-use crate::transition::Transition;
+use crate::plain_edge::PlainEdge;
 use omega_hoa_edges::{LabelSummary, can_summaries_meet};
 use omega_hoa_label::Label;
 use omega_text::Refusal;
@@ -16,33 +16,33 @@ use std::marker::Model;
 /// An edge with what is known of its label. Contracts see the edge.
 #[derive(Debug, Drop)]
 pub(crate) struct Tabled {
-    transition: Transition,
+    plain_edge: PlainEdge,
     summary: LabelSummary,
 }
 
 impl Model for Tabled {
     ghost use Rattle.omega_hoa_edges.specs.Summaries.{IsSummaryOf};
-    ghost use Rattle.omega_lang_product.specs.contracts.transition.Transition as seen_transition;
-    ghost use Rattle.omega_lang_product.specs.declared.transition.Transition.{Transition};
+    ghost use Rattle.omega_lang_product.specs.contracts.plain_edge.PlainEdge as seen_plain_edge;
+    ghost use Rattle.omega_lang_product.specs.declared.plain_edge.PlainEdge.{PlainEdge};
 
-    ghost Value = { Transition };
+    ghost Value = { PlainEdge };
 
-    ghost coded = { seen_transition.the_row.coded };
+    ghost coded = { seen_plain_edge.the_row.coded };
 
-    ghost view = { λ t. t.transition };
+    ghost view = { λ t. t.plain_edge };
 
-    ghost invariant = { λ t. IsSummaryOf t.transition.label t.summary };
+    ghost invariant = { λ t. IsSummaryOf t.plain_edge.label t.summary };
 }
 
 impl Tabled {
     /// Adds to an edge what is known of its label.
-    pub(crate) fn of(alloc: Global, transition: Transition) -> Result<Tabled, Refusal>
-        ensures edge { IfOk result (λ edge. edge ≡ transition) }
+    pub(crate) fn of(alloc: Global, plain_edge: PlainEdge) -> Result<Tabled, Refusal>
+        ensures edge { IfOk result (λ edge. edge ≡ plain_edge) }
         ensures memory { IsOkUnless result Refusal.Memory }
     {
-        let summary = LabelSummary::of(alloc, &transition.label)?;
+        let summary = LabelSummary::of(alloc, &plain_edge.label)?;
         Ok(Tabled {
-            transition,
+            plain_edge,
             summary,
         })
     }
@@ -51,21 +51,21 @@ impl Tabled {
     pub(crate) fn label(&self) -> &Label
         ensures { result.now ≡ self.now.label }
     {
-        &self.transition.label
+        &self.plain_edge.label
     }
 
     /// Returns the pair of the states that it and `other` lead to.
     pub(crate) fn joint_target(&self, other: &Tabled) -> (u32, u32)
         ensures { result ≡ (self.now.target, other.now.target) }
     {
-        (self.transition.target, other.transition.target)
+        (self.plain_edge.target, other.plain_edge.target)
     }
 
     /// Returns the marks: the numbers of the acceptance sets that it is in.
     pub(crate) fn marks(&self) -> &[u32]
         ensures { result.now ≡ self.now.marks }
     {
-        self.transition.marks.as_slice()
+        self.plain_edge.marks.as_slice()
     }
 
     /// Whether it can be taken together with `other`. Fails with [TaskFault::TooManyPropositions] if that is undecided,

@@ -14,7 +14,6 @@ use Rattle.omega_hoa_acceptance.specs.Writing.{acc_written}
 use Rattle.omega_hoa_label.specs.Label.{LabelTree}
 use Rattle.omega_hoa_label.specs.Raw.{raw_depth}
 use Rattle.omega_hoa_label.specs.Writing.{label_written}
-use Rattle.omega_hoa_syntax.specs.declared.raw_automaton.RawAutomaton.{RawAutomaton}
 use Rattle.omega_hoa_automaton.specs.Automaton.{Description}
 use Rattle.omega_hoa_automaton.specs.Branching.{has_universal_branching}
 use Rattle.omega_hoa_automaton.specs.Faults.{automaton_fault_of}
@@ -26,10 +25,6 @@ use Rattle.omega_lang_trim.specs.Written.{written}
 -- a label is too deep with the parentheses that it needs
 abbrev pub IsDeepLabel : LabelTree → Type 0
 IsDeepLabel label = most_depth < raw_depth (label_written label)
-
--- an automaton that is written breaks a limit of automata
-abbrev pub BreaksLimit : RawAutomaton → Type 0
-BreaksLimit raw = (fault : AutomatonFault) × (automaton_fault_of raw ≡ Some fault)
 
 -- why a trimmed automaton would be too large: its acceptance or one of its labels is too deep with the parentheses that
 -- it needs, or the automaton, as its text writes it, breaks a limit of automata

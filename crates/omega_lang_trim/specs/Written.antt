@@ -1,6 +1,6 @@
 -- An automaton as a text writes it: without tool, properties, aliases and headers that the format leaves open, and with
 -- parentheses only where an operator needs them (HOA v1, header and body).
-use Rattle.std.specs.Prelude.{ℕ, Option, Some, None, List, [], ◌∷◌, ◌++◌, codes, length, map, option_map}
+use Rattle.std.specs.Prelude.{ℕ, Option, Some, None, List, [], ◌∷◌, ◌++◌, length, map, option_map}
 use Rattle.omega_hoa_acceptance.specs.Writing.{acc_written}
 use Rattle.omega_hoa_acceptance.specs.declared.name.AccName.{AccName}
 use Rattle.omega_hoa_label.specs.Writing.{label_written}
@@ -10,6 +10,7 @@ use Rattle.omega_hoa_syntax.specs.declared.raw_item.RawItem.{RawItem}
 use Rattle.omega_hoa_syntax.specs.declared.raw_item.RawItem.TheVariants as item
 use Rattle.omega_hoa_syntax.specs.declared.raw_state.RawState.{RawState}
 use Rattle.omega_hoa_automaton.specs.Automaton.{Description}
+use Rattle.omega_hoa_automaton.specs.Written.{raw_automaton}
 use Rattle.omega_hoa_automaton.specs.declared.edge.Edge.{Edge}
 use Rattle.omega_hoa_automaton.specs.declared.state.State.{State}
 
@@ -52,10 +53,6 @@ state_written state = record {
   edges = map edge_written state.edges;
 }
 
--- a header and a body together
-abbrev pub raw_of : List RawItem → List RawState → RawAutomaton
-raw_of items states = record { version = codes "v1"; items = items; states = states }
-
 -- the automaton
 abbrev pub written : Description → RawAutomaton
-written a = raw_of (header a) (map state_written a.defined)
+written a = raw_automaton (header a) (map state_written a.defined)

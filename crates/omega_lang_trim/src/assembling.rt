@@ -5,8 +5,8 @@ ghost use Rattle.omega_text.specs.declared.refusal.automaton.AutomatonFault.{Aut
 ghost use Rattle.omega_hoa_automaton.specs.Faults.{automaton_fault_of};
 ghost use Rattle.omega_hoa_automaton.specs.Meaning.{Means};
 ghost use Rattle.omega_hoa_edges.specs.Fitting.{IsLarge};
-ghost use Rattle.omega_lang_trim.specs.Refusing.{BreaksLimit};
-ghost use Rattle.omega_lang_trim.specs.Written.{raw_of};
+ghost use Rattle.omega_hoa_automaton.specs.Faults.{BreaksLimit};
+ghost use Rattle.omega_hoa_automaton.specs.Written.{raw_automaton};
 
 use omega_hoa_automaton::{Automaton, RawAutomaton, automaton_of};
 use omega_hoa_syntax::{RawItem, RawState};
@@ -19,7 +19,7 @@ pub fn raw_automaton_of(
     items: Vec<RawItem>,
     states: Vec<RawState>,
 ) -> Result<RawAutomaton, Refusal>
-    ensures assembled { IfOk result (λ raw. raw ≡ raw_of items.items states.items) }
+    ensures assembled { IfOk result (λ raw. raw ≡ raw_automaton items.items states.items) }
     ensures memory { IsOkUnless result Refusal.Memory }
 {
     let version = ByteString::from_slice(alloc, b"v1")?;

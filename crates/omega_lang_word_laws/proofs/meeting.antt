@@ -8,4 +8,4 @@ pub mod Lists
 pub mod Marks
 pub mod Meeting
 pub mod One
-pub mod Transitions
+pub mod PlainEdges

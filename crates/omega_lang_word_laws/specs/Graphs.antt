@@ -15,13 +15,13 @@ pub record TakesTogether (one other : Description) (pairs : List Pair) (joint : 
   pub within : Contains pairs pair
   pub first_in : Contains (first_numbered one other pair) joint.first
   pub second_in : Contains (second_numbered one other pair) joint.second
-  pub meets : can_meet joint.first.transition joint.second.transition ≡ true
+  pub meets : can_meet joint.first.plain_edge joint.second.plain_edge ≡ true
   pub is : joint ≡ joint_of pairs (pair_number pairs pair) joint.first joint.second
   pub number : edge.source.number ≡ pair_number pairs pair
   pub no_label : edge.source.label ≡ None
   pub no_marks : edge.source.marks ≡ []
   pub edge_is : IsJointEdge
-      (taken_together pairs joint.first.transition joint.second.transition) edge.edge
+      (taken_together pairs joint.first.plain_edge joint.second.plain_edge) edge.edge
 
 -- an automaton is the product of two, and a graph is its graph: each row is an edge of it, which takes together the two
 -- edges of the row

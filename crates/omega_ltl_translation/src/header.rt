@@ -7,8 +7,8 @@ ghost use Rattle.omega_hoa_syntax.specs.declared.raw_item.RawItem.TheVariants as
 ghost use Rattle.omega_ltl_translation.specs.Translation.{given_name};
 ghost use Rattle.omega_ltl_translation.specs.private.Written.{header as header_of, name_items};
 
-use crate::acceptance::{buchi_formula, buchi_name};
 use omega_hoa_syntax::RawItem;
+use omega_lang_product::{buchi_formula, buchi_name};
 use omega_text::{ByteString, Numbers, Refusal, Seq, copy_of_strings};
 use std::alloc::Global;
 

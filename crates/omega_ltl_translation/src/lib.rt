@@ -3,7 +3,6 @@
 //! [translate] makes a transition-based generalized Büchi automaton, whose states are sets of demands (Couvreur 1999).
 #![tactic(auto)]
 
-mod acceptance;
 mod edges;
 mod exploring;
 mod forming;

@@ -16,18 +16,19 @@ use Rattle.omega_lang_runs.specs.Words.{Allows}
 use Rattle.omega_lang_runs.proofs.Flat.{contains_flat}
 use Rattle.omega_lang_product.specs.JointEdges.{numbered_from}
 use Rattle.omega_lang_product.specs.Joining.{joined_names}
-use Rattle.omega_lang_product.specs.PairGraph.{IsPairGraph, edges_before}
+use Rattle.omega_lang_product.specs.PairGraph.{IsPairGraph}
+use Rattle.omega_hoa_automaton.specs.Automaton.{edges_before}
 use Rattle.omega_lang_product.specs.Pairs.{Pair, can_meet, first_view, pair_number, partners, second_view, start_pairs, start_state}
-use Rattle.omega_lang_product.specs.Product.{IsJointEdge, IsPairState, IsProduct, joint_transitions, taken_together}
-use Rattle.omega_lang_product.specs.Transitions.{transitions_at}
+use Rattle.omega_lang_product.specs.Product.{IsJointEdge, IsPairState, IsProduct, joint_plain_edges, taken_together}
+use Rattle.omega_lang_product.specs.PlainEdges.{plain_edges_at}
 use Rattle.omega_lang_product.specs.declared.graph.PairGraph.{PairGraph}
-use Rattle.omega_lang_product.specs.declared.transition.Transition.{Transition}
+use Rattle.omega_lang_product.specs.declared.plain_edge.PlainEdge.{PlainEdge}
 use Rattle.omega_lang_product.proofs.Holding.{and_both, both_and, can_hold_iff}
 use Rattle.omega_lang_word_laws.specs.Graphs.{IsGraphOf}
 use Rattle.omega_lang_word_laws.proofs.meeting.Found.{number_below, number_tells, starts_found}
 use Rattle.omega_lang_word_laws.proofs.meeting.Lists.{beside_left, contains_filter, contains_flat_map, contains_map, flat_map_contains, index_of, map_contains, same_some}
 use Rattle.omega_lang_word_laws.proofs.meeting.Meeting.{leads_to, one_start}
-use Rattle.omega_lang_word_laws.proofs.meeting.Transitions.{IsListedAt, numbered_found}
+use Rattle.omega_lang_word_laws.proofs.meeting.PlainEdges.{IsListedAt, numbered_found}
 use Rattle.omega_lang_intersection.proofs.Formulas.{named_first}
 use Rattle.omega_lang_intersection.proofs.Made.{IsMade, made}
 use Rattle.omega_lang_intersection.proofs.Made.{numbered_within}
@@ -52,11 +53,11 @@ module _ (one other both : Description) (graph : PairGraph) (automaton : IsAutom
   abbrev names : List (List ℕ)
   names = joined_names one.propositions other.propositions
 
-  abbrev firsts : ℕ → List Transition
-  firsts s = transitions_at (first_view one other) one.defined s
+  abbrev firsts : ℕ → List PlainEdge
+  firsts s = plain_edges_at (first_view one other) one.defined s
 
-  abbrev seconds : ℕ → List Transition
-  seconds s = transitions_at (second_view one other) other.defined s
+  abbrev seconds : ℕ → List PlainEdge
+  seconds s = plain_edges_at (second_view one other) other.defined s
 
   first_names : AreNamedAmong one (first_view one other) names
   first_names p below = named_first one.propositions other.propositions p below
@@ -69,9 +70,9 @@ module _ (one other both : Description) (graph : PairGraph) (automaton : IsAutom
     pub pair : Pair
     pub within : Contains pairs pair
     pub here : edge.source.number ≡ pair_number pairs pair
-    pub first : Transition
+    pub first : PlainEdge
     pub first_in : Contains (firsts pair.0) first
-    pub second : Transition
+    pub second : PlainEdge
     pub second_in : Contains (seconds pair.1) second
     pub meets : can_meet first second ≡ true
     pub enters : edge.edge.targets ≡ pair_number pairs (first.target, second.target) ∷ []
@@ -85,13 +86,13 @@ module _ (one other both : Description) (graph : PairGraph) (automaton : IsAutom
     pair = r.takes.pair;
     within = subst (λ (ps : List Pair). Contains ps r.takes.pair) (sym of.pairs_are) r.takes.within;
     here = r.takes.number ∙ ap (λ (ps : List Pair). pair_number ps r.takes.pair) (sym of.pairs_are);
-    first = r.joint.first.transition;
+    first = r.joint.first.plain_edge;
     first_in = numbered_within (edges_before one.defined r.takes.pair.0) (firsts r.takes.pair.0) r.joint.first r.takes.first_in;
-    second = r.joint.second.transition;
+    second = r.joint.second.plain_edge;
     second_in = numbered_within (edges_before other.defined r.takes.pair.1) (seconds r.takes.pair.1) r.joint.second r.takes.second_in;
     meets = r.takes.meets;
     enters = r.takes.edge_is.targets
-        ∙ ap (λ (ps : List Pair). pair_number ps (r.joint.first.transition.target, r.joint.second.transition.target) ∷ []) (sym of.pairs_are);
+        ∙ ap (λ (ps : List Pair). pair_number ps (r.joint.first.plain_edge.target, r.joint.second.plain_edge.target) ∷ []) (sym of.pairs_are);
     label = label_is one other graph is both of r.joint edge r.takes;
     way = way;
     first_left = ap source_in m.listed.at ∙ m.leaves;
@@ -107,7 +108,7 @@ module _ (one other both : Description) (graph : PairGraph) (automaton : IsAutom
       none : 0 + edges_before other.defined r.takes.pair.1 ≡ edges_before other.defined r.takes.pair.1
       none = omega arith
 
-      found : (k : ℕ) × (found_edge : BodyEdge) × IsListedAt (second_view one other) other.defined k found_edge r.joint.second.transition
+      found : (k : ℕ) × (found_edge : BodyEdge) × IsListedAt (second_view one other) other.defined k found_edge r.joint.second.plain_edge
           × (found_edge.source.number ≡ r.takes.pair.1) × (r.joint.second.number ≡ 0 + k)
       found =
           let P : ℕ → Type 0 = λ n. Contains (numbered_from n (seconds r.takes.pair.1)) r.joint.second in
@@ -119,11 +120,11 @@ module _ (one other both : Description) (graph : PairGraph) (automaton : IsAutom
       number_is : get_or graph.edges.seconds.items number 0 ≡ found.0
       number_is = second_is one other graph is both of number edge r ∙ found.4 ∙ zero_more
 
-      way : (sink : ℕ) → is_way_out other sink (get_or graph.edges.seconds.items number 0) ≡ ((r.joint.second.transition.target == sink) && not (r.takes.pair.1 == sink))
+      way : (sink : ℕ) → is_way_out other sink (get_or graph.edges.seconds.items number 0) ≡ ((r.joint.second.plain_edge.target == sink) && not (r.takes.pair.1 == sink))
       way sink =
           ap (is_way_out other sink) number_is
           ∙ ap (enters_sink sink) found.2.at
-          ∙ ap₂ (λ (x y : ℕ). (x == sink) && not (y == sink)) (sym (ap (λ (t : Transition). t.target) found.2.is)) found.3
+          ∙ ap₂ (λ (x y : ℕ). (x == sink) && not (y == sink)) (sym (ap (λ (t : PlainEdge). t.target) found.2.is)) found.3
 
   module _ (letter : NamedLetter) where
     abbrev held : ℕ → Bool
@@ -211,11 +212,11 @@ module _ (one other both : Description) (graph : PairGraph) (automaton : IsAutom
         f : IsSeenEdge other (second_view one other) refl automaton' plain' names second_names letter pair.1 target.1
         f = seen_edge other (second_view one other) refl automaton' plain' names second_names letter pair.1 target.1 second
 
-        t : Transition
-        t = e.transition
+        t : PlainEdge
+        t = e.plain_edge
 
-        u : Transition
-        u = f.transition
+        u : PlainEdge
+        u = f.plain_edge
 
         t_in : Contains (firsts pair.0) t
         t_in = e.within
@@ -238,13 +239,13 @@ module _ (one other both : Description) (graph : PairGraph) (automaton : IsAutom
         state : (y : State) × Contains both.defined y × IsPairState one other pairs pair y
         state = beside_left (IsPairState one other pairs) pairs both.defined product.defined pair inside
 
-        joint : Contains (joint_transitions pairs (firsts pair.0) (seconds pair.1)) (taken_together pairs t u)
+        joint : Contains (joint_plain_edges pairs (firsts pair.0) (seconds pair.1)) (taken_together pairs t u)
         joint =
-            contains_flat_map (λ (t : Transition). map (taken_together pairs t) (partners t (seconds pair.1))) (firsts pair.0) t (taken_together pairs t u) t_in
+            contains_flat_map (λ (t : PlainEdge). map (taken_together pairs t) (partners t (seconds pair.1))) (firsts pair.0) t (taken_together pairs t u) t_in
             (contains_map (taken_together pairs t) (partners t (seconds pair.1)) u (contains_filter (can_meet t) (seconds pair.1) u u_in meets))
 
         edge : (y : Edge) × Contains state.0.edges y × IsJointEdge (taken_together pairs t u) y
-        edge = beside_left IsJointEdge (joint_transitions pairs (firsts pair.0) (seconds pair.1)) state.0.edges state.2.edges (taken_together pairs t u) joint
+        edge = beside_left IsJointEdge (joint_plain_edges pairs (firsts pair.0) (seconds pair.1)) state.0.edges state.2.edges (taken_together pairs t u) joint
 
         body : BodyEdge
         body = record { source = state.0; edge = edge.0 }

@@ -9,11 +9,11 @@ use Rattle.omega_hoa_automaton.specs.Branching.{has_universal_branching}
 use Rattle.omega_lang_runs.specs.Lasso.{IsStep, label_of}
 use Rattle.omega_lang_runs.specs.Words.{Allows, CanBeTaken}
 use Rattle.omega_lang_product.specs.Joining.{joined_names, number_among, places_among}
-use Rattle.omega_lang_product.specs.Transitions.{View, transitions_at}
-use Rattle.omega_lang_product.specs.declared.transition.Transition.{Transition}
+use Rattle.omega_lang_product.specs.PlainEdges.{View, plain_edges_at}
+use Rattle.omega_lang_product.specs.declared.plain_edge.PlainEdge.{PlainEdge}
 use Rattle.omega_lang_word_laws.proofs.meeting.Lists.{same_some}
 use Rattle.omega_lang_word_laws.proofs.meeting.Meeting.{usable_of}
-use Rattle.omega_lang_word_laws.proofs.meeting.Transitions.{IsTransition, found_transition, listed_transition}
+use Rattle.omega_lang_word_laws.proofs.meeting.PlainEdges.{IsPlainEdge, found_plain_edge, listed_plain_edge}
 use Rattle.omega_lang_word_laws.proofs.naming.Named.{allowed_same, contained_at}
 use Rattle.omega_lang_intersection.proofs.Formulas.{name_there}
 use Rattle.omega_lang_intersection.proofs.Naming.{second_within}
@@ -46,32 +46,32 @@ AreNamedAmong a view names =
 module _ (a : Description) (view : View) (counted : length a.propositions ≡ view.count) (automaton : IsAutomaton a)
     (plain : has_universal_branching a ≡ false) (names : List (List ℕ)) (named : AreNamedAmong a view names) (letter : NamedLetter) where
   -- where the label of an edge is true, the automaton goes
-  pub side_goes : (s : ℕ) (t : Transition) → Contains (transitions_at view a.defined s) t → truth (seen names letter) t.label ≡ true → GoesAt a letter s t.target
+  pub side_goes : (s : ℕ) (t : PlainEdge) → Contains (plain_edges_at view a.defined s) t → truth (seen names letter) t.label ≡ true → GoesAt a letter s t.target
   side_goes s t within holds =
-      let found = found_transition a view counted automaton plain s t within in
-      let is : IsTransition a view found.0 found.1 t = found.2 in
+      let found = found_plain_edge a view counted automaton plain s t within in
+      let is : IsPlainEdge a view found.0 found.1 t = found.2 in
       goes_by a letter s t.target found.0 found.1 is.numbered found.3 is.target
       (allowed_same a automaton (λ i p. seen names letter (number_among view.places p)) (λ i. seen a.propositions letter)
       (λ i p below. ap letter (named p below)) found.0 0 found.1 is.numbered ((is.label (seen names letter)).0 holds))
 
   -- an edge by which it goes, as the product sees it
   pub record IsSeenEdge (s to : ℕ) : Type 0 where
-    pub transition : Transition
-    pub within : Contains (transitions_at view a.defined s) transition
-    pub target : transition.target ≡ to
-    pub holds : truth (seen names letter) transition.label ≡ true
+    pub plain_edge : PlainEdge
+    pub within : Contains (plain_edges_at view a.defined s) plain_edge
+    pub target : plain_edge.target ≡ to
+    pub holds : truth (seen names letter) plain_edge.label ≡ true
 
   pub seen_edge : (s to : ℕ) → GoesAt a letter s to → IsSeenEdge s to
   seen_edge s to goes =
       let step : IsStep a s goes.number to = goes.step in
       let taken : CanBeTaken a goes.number (seen a.propositions letter) = goes.taken in
-      let listed = listed_transition a view counted automaton plain goes.number step.edge step.numbered in
+      let listed = listed_plain_edge a view counted automaton plain goes.number step.edge step.numbered in
       let same : taken.edge ≡ step.edge = same_some taken.edge step.edge (sym taken.numbered ∙ step.numbered) in
       let allowed : Allows a goes.number (label_of step.edge) (seen a.propositions letter) =
       subst (λ (edge : BodyEdge). Allows a goes.number (label_of edge) (seen a.propositions letter)) same taken.allowed in
       record {
-        transition = listed.0;
-        within = subst (λ (n : ℕ). Contains (transitions_at view a.defined n) listed.0) step.leaves listed.1;
+        plain_edge = listed.0;
+        within = subst (λ (n : ℕ). Contains (plain_edges_at view a.defined n) listed.0) step.leaves listed.1;
         target = single listed.0.target to (sym listed.2.target ∙ step.enters);
         holds = (listed.2.label (seen names letter)).1
             (allowed_same a automaton (λ i. seen a.propositions letter) (λ i p. seen names letter (number_among view.places p))

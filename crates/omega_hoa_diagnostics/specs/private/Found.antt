@@ -10,7 +10,8 @@ use Rattle.omega_hoa_edges.specs.AutomatonLabels.{labels_at, state_at}
 use Rattle.omega_hoa_edges.specs.Refusing.{IsFirstClash}
 use Rattle.omega_hoa_diagnostics.specs.ChoiceCauses.{HasNoChoiceToTell, TellsChoice}
 use Rattle.omega_hoa_diagnostics.specs.Choices.{AreAllPassedOver, CanBeTakenTogether}
-use Rattle.omega_hoa_diagnostics.specs.Choices.{IsFirstChoice, IsPassedOver, edges_before}
+use Rattle.omega_hoa_diagnostics.specs.Choices.{IsFirstChoice, IsPassedOver}
+use Rattle.omega_hoa_automaton.specs.Automaton.{edges_before}
 use Rattle.omega_hoa_diagnostics.specs.declared.choosing.Choice.{Choice}
 use Rattle.omega_hoa_diagnostics.specs.declared.rows.StateRow.{StateRow}
 

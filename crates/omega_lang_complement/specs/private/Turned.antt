@@ -13,7 +13,8 @@ use Rattle.omega_lang_complement.specs.Complement.{AreFittingBelow}
 use Rattle.omega_lang_complement.specs.Judged.{AreFitting}
 use Rattle.omega_hoa_edges.specs.AutomatonLabels.{is_full_at, labels_at, labels_of}
 use Rattle.omega_hoa_edges.specs.Labels.{is_full}
-use Rattle.omega_lang_complement.specs.Refusing.{BreaksLimit, IsFirstFault, IsStateFault}
+use Rattle.omega_lang_complement.specs.Refusing.{IsFirstFault, IsStateFault}
+use Rattle.omega_hoa_automaton.specs.Faults.{BreaksLimit}
 use Rattle.omega_lang_complement.specs.Written.{IsTurnedAt, SomeLacksLetter}
 use Rattle.omega_hoa_edges.specs.declared.state_labels.StateLabels.{StateLabels}
 use Rattle.omega_hoa_edges.specs.Fitting.{IsLarge}

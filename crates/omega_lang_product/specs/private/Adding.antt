@@ -12,7 +12,7 @@ numbered_in row = numbered_from row.before row.edges.now
 
 -- an edge of a row
 abbrev pub numbered_edge : RowEdge → Numbered
-numbered_edge edge = record { number = edge.number; transition = edge.edge.now }
+numbered_edge edge = record { number = edge.number; plain_edge = edge.edge.now }
 
 -- whatever edges a table had, it has `joints` after them
 abbrev pub Adds : List Joint → JointEdges → JointEdges → Type 0

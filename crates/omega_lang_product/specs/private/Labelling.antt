@@ -9,22 +9,22 @@ use Rattle.omega_hoa_label.specs.Writing.{label_written}
 use Rattle.omega_lang_product.specs.JointEdges.{Joint, marks_of_both}
 use Rattle.omega_lang_product.specs.declared.joint_edges.JointEdges.{JointEdges}
 use Rattle.omega_lang_product.specs.declared.row.Row.{Row}
-use Rattle.omega_lang_product.specs.declared.transition.Transition.{Transition}
+use Rattle.omega_lang_product.specs.declared.plain_edge.PlainEdge.{PlainEdge}
 
 -- the edge of the product that a joint edge is, with its label
-abbrev pub labelled : Joint → Transition
+abbrev pub labelled : Joint → PlainEdge
 labelled joint = record {
-  label = joined joint.first.transition.label joint.second.transition.label;
+  label = joined joint.first.plain_edge.label joint.second.plain_edge.label;
   target = joint.to;
   marks = marks_of_both joint;
 }
 
 -- an edge of which nothing is known
-abbrev pub no_edge : Transition
+abbrev pub no_edge : PlainEdge
 no_edge = record { label = constant true; target = 0; marks = [] }
 
 -- the edge of a row with a number
-abbrev pub edge_numbered : Row → ℕ → Transition
+abbrev pub edge_numbered : Row → ℕ → PlainEdge
 edge_numbered row number = get_or row.edges.now (number - row.before) no_edge
 
 -- a row has an edge with a number
@@ -38,9 +38,9 @@ pub record IsJointAt (edges : JointEdges) (firsts seconds : Row) (place : ℕ)
   pub to : (get_or edges.ends.items place (edge_of 0 0)).to ≡ joint.to
   pub marks : get_or edges.marks.items place [] ≡ marks_of_both joint
   pub has_first : HasEdge firsts (get_or edges.firsts.items place 0)
-  pub first : edge_numbered firsts (get_or edges.firsts.items place 0) ≡ joint.first.transition
+  pub first : edge_numbered firsts (get_or edges.firsts.items place 0) ≡ joint.first.plain_edge
   pub has_second : HasEdge seconds (get_or edges.seconds.items place 0)
-  pub second : edge_numbered seconds (get_or edges.seconds.items place 0) ≡ joint.second.transition
+  pub second : edge_numbered seconds (get_or edges.seconds.items place 0) ≡ joint.second.plain_edge
 
 -- a joint edge has a label that is too deep as it is written
 abbrev pub IsDeep : Joint → Type 0

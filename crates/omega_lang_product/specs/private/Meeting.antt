@@ -14,57 +14,57 @@ use Rattle.omega_lang_product.specs.JointEdges.{numbered_partners}
 use Rattle.omega_lang_product.specs.Pairs.{can_meet, partners}
 use Rattle.omega_lang_product.specs.declared.row.Row.{Row}
 use Rattle.omega_lang_product.specs.declared.row.RowEdge.{RowEdge}
-use Rattle.omega_lang_product.specs.declared.transition.Transition.{Transition}
+use Rattle.omega_lang_product.specs.declared.plain_edge.PlainEdge.{PlainEdge}
 use Rattle.omega_lang_product.specs.private.Adding.{numbered_edge, numbered_in}
 use Rattle.omega_hoa_label.specs.Shape.{FitsALabel}
 
 -- `TooManyPropositions` if it may be undecided whether they can be taken together, `TooLarge` if their labels are
 -- together too deep or too large to be judged
-abbrev pub IsUnmet : Transition → Transition → TaskFault → Type 0
-IsUnmet transition other NotParity = ⊥
-IsUnmet transition other UniversalBranch = ⊥
-IsUnmet transition other TooManyPropositions = IsHardLabel (conjunction transition.label other.label)
-IsUnmet transition other TooWide = ⊥
-IsUnmet transition other Budget = ⊥
-IsUnmet transition other BadSolution = ⊥
-IsUnmet transition other UnknownNode = ⊥
-IsUnmet transition other Controllable = ⊥
-IsUnmet transition other TooLarge = FitsALabel (conjunction transition.label other.label) → ⊥
-IsUnmet transition other (NotDeterministic state) = ⊥
+abbrev pub IsUnmet : PlainEdge → PlainEdge → TaskFault → Type 0
+IsUnmet plain_edge other NotParity = ⊥
+IsUnmet plain_edge other UniversalBranch = ⊥
+IsUnmet plain_edge other TooManyPropositions = IsHardLabel (conjunction plain_edge.label other.label)
+IsUnmet plain_edge other TooWide = ⊥
+IsUnmet plain_edge other Budget = ⊥
+IsUnmet plain_edge other BadSolution = ⊥
+IsUnmet plain_edge other UnknownNode = ⊥
+IsUnmet plain_edge other Controllable = ⊥
+IsUnmet plain_edge other TooLarge = FitsALabel (conjunction plain_edge.label other.label) → ⊥
+IsUnmet plain_edge other (NotDeterministic state) = ⊥
 
 -- this fault has an edge with some edge of a list
-pub record HasUnmetPartner (transition : Transition) (others : List Transition)
+pub record HasUnmetPartner (plain_edge : PlainEdge) (others : List PlainEdge)
     (fault : TaskFault) : Type 0 where
-  pub other : Transition
+  pub other : PlainEdge
   pub listed : Contains others other
-  pub unmet : IsUnmet transition other fault
+  pub unmet : IsUnmet plain_edge other fault
 
 -- this fault has some edge of one list with some edge of the other
-pub record HasUnmet (transitions others : List Transition) (fault : TaskFault) : Type 0 where
-  pub transition : Transition
-  pub listed : Contains transitions transition
-  pub partner : HasUnmetPartner transition others fault
+pub record HasUnmet (plain_edges others : List PlainEdge) (fault : TaskFault) : Type 0 where
+  pub plain_edge : PlainEdge
+  pub listed : Contains plain_edges plain_edge
+  pub partner : HasUnmetPartner plain_edge others fault
 
 -- there is an edge for each valuation of propositions that have these places, with its label
-pub record AreByValuation (places : List ℕ) (transitions : List Transition) : Type 0 where
-  pub many : length transitions ≡ 2 ^ length places
-  pub labels : (index : ℕ) (transition : Transition) → slice_get transitions index ≡ Some transition
-      → transition.label ≡ relabelled places (valuation_label index (length places))
+pub record AreByValuation (places : List ℕ) (plain_edges : List PlainEdge) : Type 0 where
+  pub many : length plain_edges ≡ 2 ^ length places
+  pub labels : (index : ℕ) (plain_edge : PlainEdge) → slice_get plain_edges index ≡ Some plain_edge
+      → plain_edge.label ≡ relabelled places (valuation_label index (length places))
 
 -- of these edges only the one with this index can be taken together with an edge
-pub record MeetsAlone (transition : Transition) (index : ℕ) (others : List Transition) : Type 0 where
+pub record MeetsAlone (plain_edge : PlainEdge) (index : ℕ) (others : List PlainEdge) : Type 0 where
   pub there : index < length others
-  pub apart : (place : ℕ) (other : Transition) → slice_get others place ≡ Some other → index ≢ place
-      → can_meet transition other ≡ false
+  pub apart : (place : ℕ) (other : PlainEdge) → slice_get others place ≡ Some other → index ≢ place
+      → can_meet plain_edge other ≡ false
 
 -- of the edges of two states only those of one index can be taken together
-abbrev pub MeetByIndex : List Transition → List Transition → Type 0
-MeetByIndex transitions others = (index : ℕ) (transition : Transition)
-    → slice_get transitions index ≡ Some transition → MeetsAlone transition index others
+abbrev pub MeetByIndex : List PlainEdge → List PlainEdge → Type 0
+MeetByIndex plain_edges others = (index : ℕ) (plain_edge : PlainEdge)
+    → slice_get plain_edges index ≡ Some plain_edge → MeetsAlone plain_edge index others
 
 -- a row has all edges of another that can be taken together with an edge, and none that the other has not
 pub record HasPartners (edge : RowEdge) (all row : Row) : Type 0 where
-  pub transitions : partners edge.edge.now row.edges.now ≡ partners edge.edge.now all.edges.now
+  pub plain_edges : partners edge.edge.now row.edges.now ≡ partners edge.edge.now all.edges.now
   pub numbered : numbered_partners (numbered_edge edge) (numbered_in row)
       ≡ numbered_partners (numbered_edge edge) (numbered_in all)
-  pub listed : (other : Transition) → Contains row.edges.now other → Contains all.edges.now other
+  pub listed : (other : PlainEdge) → Contains row.edges.now other → Contains all.edges.now other

@@ -9,11 +9,11 @@ use Rattle.omega_hoa_edges.specs.Labels.{label_at}
 use Rattle.omega_hoa_label.specs.Renumbering.{relabelled}
 use Rattle.omega_lang_product.specs.JointEdges.{numbered_from}
 use Rattle.omega_lang_product.specs.PairGraph.{numbered_at}
-use Rattle.omega_lang_product.specs.Transitions.{View, transitions_at, transitions_from}
+use Rattle.omega_lang_product.specs.PlainEdges.{View, plain_edges_at, plain_edges_from}
 use Rattle.omega_lang_product.specs.declared.renumbering.Renumbering.{Renumbering}
 use Rattle.omega_lang_product.specs.declared.row.Row.{Row}
 use Rattle.omega_lang_product.specs.declared.table.Table.{Table}
-use Rattle.omega_lang_product.specs.declared.transition.Transition.{Transition}
+use Rattle.omega_lang_product.specs.declared.plain_edge.PlainEdge.{PlainEdge}
 
 -- how a product sees an automaton whose propositions have these places
 abbrev pub view_at : List ℕ → ℕ → View
@@ -33,8 +33,8 @@ label_in_product places state index edge =
     relabelled places (label_at (length places) state index edge)
 
 -- the edges of a state
-abbrev pub row_of : View → State → List Transition
-row_of view state = transitions_from view state 0 state.edges
+abbrev pub row_of : View → State → List PlainEdge
+row_of view state = plain_edges_from view state 0 state.edges
 
 -- how many edges states have
 abbrev pub edges_in : List State → ℕ
@@ -52,7 +52,7 @@ pub record AreNumbered (states : List State) (numbers firsts : List ℕ) : Type 
 
 -- for each state, its edges or nothing
 pub record AreRows (view : View) (states : List State)
-    (rows : List (Option (List Transition))) : Type 0 where
+    (rows : List (Option (List PlainEdge))) : Type 0 where
   pub long : length rows ≡ length states
   pub each : (place : ℕ)
       → IfSome (get_or rows place None) (λ row. row ≡ get_or (map (row_of view) states) place [])
@@ -70,7 +70,7 @@ HasRow table number = IfSome (position (nat_eq number) table.numbers.keys)
 
 -- a row has the edges of the first of some states with a number, and their numbers
 pub record IsRowOf (view : View) (states : List State) (number : ℕ) (row : Row) : Type 0 where
-  pub edges : row.edges.now ≡ transitions_at view states number
+  pub edges : row.edges.now ≡ plain_edges_at view states number
   pub numbered : numbered_from row.before row.edges.now ≡ numbered_at view states number
 
 -- whatever states a table is of, this is the row of the first one with a number

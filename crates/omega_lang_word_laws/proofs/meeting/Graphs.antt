@@ -13,10 +13,11 @@ use Rattle.omega_hoa_automaton.specs.declared.state.State.{State}
 use Rattle.omega_lang_product.specs.Acceptance.{IsJointAcceptance}
 use Rattle.omega_lang_product.specs.Joining.{joined_names}
 use Rattle.omega_lang_product.specs.JointEdges.{Numbered, joint_of, joints_between, joints_with, numbered_from, numbered_partners}
-use Rattle.omega_lang_product.specs.PairGraph.{edges_before, first_numbered, joints_at, second_numbered}
+use Rattle.omega_lang_product.specs.PairGraph.{first_numbered, joints_at, second_numbered}
+use Rattle.omega_hoa_automaton.specs.Automaton.{edges_before}
 use Rattle.omega_lang_product.specs.Pairs.{AreReached, Pair, can_meet, first_leaving, pair_name, pair_number, partners, second_leaving, start_pairs}
-use Rattle.omega_lang_product.specs.Product.{IsJointEdge, IsPairState, IsProduct, joint_edges_of, joint_transitions, joint_with, taken_together}
-use Rattle.omega_lang_product.specs.declared.transition.Transition.{Transition}
+use Rattle.omega_lang_product.specs.Product.{IsJointEdge, IsPairState, IsProduct, joint_edges_of, joint_plain_edges, joint_with, taken_together}
+use Rattle.omega_lang_product.specs.declared.plain_edge.PlainEdge.{PlainEdge}
 use Rattle.omega_lang_product.proofs.Membership.{Contains-cases, Contains-here, Contains-nothing, Contains-there}
 use Rattle.omega_lang_word_laws.specs.Graphs.{GraphsAreOfProducts, TakesTogether}
 use Rattle.omega_lang_word_laws.proofs.meeting.Lists.{contains_filter, filter_contains}
@@ -70,13 +71,13 @@ map_on f [] ys = refl
 map_on {Y = Y} f (x ∷ xs) ys = ap (λ (rest : List Y). f x ∷ rest) (map_on f xs ys)
 
 -- an edge of the product
-abbrev edge_of : Transition → Edge
+abbrev edge_of : PlainEdge → Edge
 edge_of t = record { label = Some t.label; targets = t.target ∷ []; marks = in_order t.marks }
 
-edge_is : (t : Transition) → IsJointEdge t (edge_of t)
+edge_is : (t : PlainEdge) → IsJointEdge t (edge_of t)
 edge_is t = record { label = refl; targets = refl; marks = marks_in_order t.marks }
 
-edges_are : (ts : List Transition) → AllZip IsJointEdge ts (map edge_of ts)
+edges_are : (ts : List PlainEdge) → AllZip IsJointEdge ts (map edge_of ts)
 edges_are [] = tt
 edges_are (t ∷ ts) = (edge_is t, edges_are ts)
 
@@ -99,24 +100,24 @@ module _ (one other : Description) (pairs : List Pair) where
 
   -- the edges of a pair, one by one
   module _ (pair : Pair) (within : Contains pairs pair) where
-    abbrev body : Transition → BodyEdge
+    abbrev body : PlainEdge → BodyEdge
     body t = record { source = state_of pair; edge = edge_of t }
 
-    with_one : (first : Numbered) → Contains (first_numbered one other pair) first → (n : ℕ) (us : List Transition)
+    with_one : (first : Numbered) → Contains (first_numbered one other pair) first → (n : ℕ) (us : List PlainEdge)
         → ((x : Numbered) → Contains (numbered_from n us) x → Contains (second_numbered one other pair) x)
-        → AllZip (TakesTogether one other pairs) (joints_with pairs (pair_number pairs pair) first (numbered_from n us)) (map body (joint_with pairs first.transition us))
+        → AllZip (TakesTogether one other pairs) (joints_with pairs (pair_number pairs pair) first (numbered_from n us)) (map body (joint_with pairs first.plain_edge us))
     with_one first first_in n [] among = tt
     with_one first first_in n (u ∷ us) among =
-        go (can_meet first.transition u) refl (with_one first first_in (n + 1) us (λ x h. among x (Contains-there second x (numbered_from (n + 1) us) h)))
+        go (can_meet first.plain_edge u) refl (with_one first first_in (n + 1) us (λ x h. among x (Contains-there second x (numbered_from (n + 1) us) h)))
       where
         second : Numbered
-        second = record { number = n; transition = u }
+        second = record { number = n; plain_edge = u }
 
-        go : (b : Bool) → can_meet first.transition u ≡ b
-            → AllZip (TakesTogether one other pairs) (joints_with pairs (pair_number pairs pair) first (numbered_from (n + 1) us)) (map body (joint_with pairs first.transition us))
+        go : (b : Bool) → can_meet first.plain_edge u ≡ b
+            → AllZip (TakesTogether one other pairs) (joints_with pairs (pair_number pairs pair) first (numbered_from (n + 1) us)) (map body (joint_with pairs first.plain_edge us))
             → AllZip (TakesTogether one other pairs)
             (map (joint_of pairs (pair_number pairs pair) first) (cond b (second ∷ numbered_partners first (numbered_from (n + 1) us)) (numbered_partners first (numbered_from (n + 1) us))))
-            (map body (map (taken_together pairs first.transition) (cond b (u ∷ partners first.transition us) (partners first.transition us))))
+            (map body (map (taken_together pairs first.plain_edge) (cond b (u ∷ partners first.plain_edge us) (partners first.plain_edge us))))
         go true meets rest = (
           record {
             pair = pair;
@@ -128,33 +129,33 @@ module _ (one other : Description) (pairs : List Pair) where
             number = refl;
             no_label = refl;
             no_marks = refl;
-            edge_is = edge_is (taken_together pairs first.transition u);
+            edge_is = edge_is (taken_together pairs first.plain_edge u);
           },
           rest,
         )
         go false meets rest = rest
 
-    between : (m n : ℕ) (ts us : List Transition)
+    between : (m n : ℕ) (ts us : List PlainEdge)
         → ((x : Numbered) → Contains (numbered_from m ts) x → Contains (first_numbered one other pair) x)
         → ((x : Numbered) → Contains (numbered_from n us) x → Contains (second_numbered one other pair) x)
-        → AllZip (TakesTogether one other pairs) (joints_between pairs (pair_number pairs pair) (numbered_from m ts) (numbered_from n us)) (map body (joint_transitions pairs ts us))
+        → AllZip (TakesTogether one other pairs) (joints_between pairs (pair_number pairs pair) (numbered_from m ts) (numbered_from n us)) (map body (joint_plain_edges pairs ts us))
     between m n [] us firsts seconds = tt
     between m n (t ∷ ts) us firsts seconds =
-        let first : Numbered = record { number = m; transition = t } in
+        let first : Numbered = record { number = m; plain_edge = t } in
         let here = with_one first (firsts first (Contains-here first (numbered_from (m + 1) ts))) n us seconds in
         let later = between (m + 1) n ts us (λ x h. firsts x (Contains-there first x (numbered_from (m + 1) ts) h)) seconds in
         subst (AllZip (TakesTogether one other pairs) (joints_between pairs (pair_number pairs pair) (numbered_from m (t ∷ ts)) (numbered_from n us)))
-        (sym (map_on body (joint_with pairs t us) (joint_transitions pairs ts us)))
+        (sym (map_on body (joint_with pairs t us) (joint_plain_edges pairs ts us)))
         (zip_on (TakesTogether one other pairs) (joints_with pairs (pair_number pairs pair) first (numbered_from n us))
         (joints_between pairs (pair_number pairs pair) (numbered_from (m + 1) ts) (numbered_from n us))
-        (map body (joint_with pairs t us)) (map body (joint_transitions pairs ts us)) here later)
+        (map body (joint_with pairs t us)) (map body (joint_plain_edges pairs ts us)) here later)
 
     at_pair : AllZip (TakesTogether one other pairs) (joints_at one other pairs pair) (edges_from (state_of pair))
     at_pair =
         subst (AllZip (TakesTogether one other pairs) (joints_at one other pairs pair)) (twice (joint_edges_of one other pairs pair))
         (between (edges_before one.defined pair.0) (edges_before other.defined pair.1) (first_leaving one other pair) (second_leaving one other pair) (λ x h. h) (λ x h. h))
       where
-        twice : (ts : List Transition) → map body ts ≡ map {B = BodyEdge} (λ (e : Edge). record { source = state_of pair; edge = e }) (map edge_of ts)
+        twice : (ts : List PlainEdge) → map body ts ≡ map {B = BodyEdge} (λ (e : Edge). record { source = state_of pair; edge = e }) (map edge_of ts)
         twice [] = refl
         twice (t ∷ ts) = ap (λ (rest : List BodyEdge). body t ∷ rest) (twice ts)
 

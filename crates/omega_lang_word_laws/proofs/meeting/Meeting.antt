@@ -20,9 +20,9 @@ use Rattle.omega_lang_runs.proofs.Kept.{edge_kept, marks_are}
 use Rattle.omega_lang_product.specs.Acceptance.{IsJointAcceptance, moved_after}
 use Rattle.omega_lang_product.specs.Joining.{number_among, part_of_word}
 use Rattle.omega_lang_product.specs.Pairs.{Pair, can_meet, first_view, pair_name, pair_number, partners, second_view, start_pairs, start_state}
-use Rattle.omega_lang_product.specs.Product.{IsJointEdge, IsPairState, IsProduct, joint_transitions, taken_together}
-use Rattle.omega_lang_product.specs.Transitions.{View, transitions_at}
-use Rattle.omega_lang_product.specs.declared.transition.Transition.{Transition}
+use Rattle.omega_lang_product.specs.Product.{IsJointEdge, IsPairState, IsProduct, joint_plain_edges, taken_together}
+use Rattle.omega_lang_product.specs.PlainEdges.{View, plain_edges_at}
+use Rattle.omega_lang_product.specs.declared.plain_edge.PlainEdge.{PlainEdge}
 use Rattle.omega_lang_word_laws.specs.Products.{ProductsMeet}
 use Rattle.omega_lang_word_laws.proofs.meeting.Buchi.{both_buchi, buchi_both}
 use Rattle.omega_lang_word_laws.proofs.meeting.Conjoined.{both_satisfied, satisfied_both}
@@ -30,7 +30,7 @@ use Rattle.omega_lang_word_laws.proofs.meeting.Found.{number_below, number_tells
 use Rattle.omega_lang_product.proofs.Holding.{and_both, both_and, can_hold_iff}
 use Rattle.omega_lang_word_laws.proofs.meeting.Lists.{beside_left, beside_right, contains_at, contains_filter, contains_flat_map, contains_map, filter_contains, flat_map_contains, index_of, map_contains, passes_nowhere, same_some}
 use Rattle.omega_lang_word_laws.proofs.meeting.Marks.{first_holds, moved_nowhere, moved_satisfies, satisfies_moved, second_holds}
-use Rattle.omega_lang_word_laws.proofs.meeting.Transitions.{IsTransition, found_transition, listed_transition}
+use Rattle.omega_lang_word_laws.proofs.meeting.PlainEdges.{IsPlainEdge, found_plain_edge, listed_plain_edge}
 
 -- a start of an automaton without branches is one state
 one_alone : (start : List ℕ) → 0 < length start → nat_lt 1 (length start) ≡ false → start ≡ start_state start ∷ []
@@ -60,15 +60,15 @@ usable_of a number (Some label) held allowed = (held, allowed)
 abbrev pub HoldsMoved : ℕ → ℕ → List ℕ → List ℕ → Type 0
 HoldsMoved sets before marks all = (set : ℕ) → set < sets → holds set marks ≡ holds (before + set) all
 
--- an automaton accepts its part of a word by transitions that lead from a start
+-- an automaton accepts its part of a word by plain edges that lead from a start
 module _ (x : Description) (view : View) (counted : length x.propositions ≡ view.count)
     (automaton : IsAutomaton x) (plain : has_universal_branching x ≡ false) (word : ℕ → ℕ → Bool)
-    (states : ℕ → ℕ) (t : ℕ → Transition) (all : ℕ → List ℕ)
-    (moves : (i : ℕ) → Contains (transitions_at view x.defined (states i)) (t i))
+    (states : ℕ → ℕ) (t : ℕ → PlainEdge) (all : ℕ → List ℕ)
+    (moves : (i : ℕ) → Contains (plain_edges_at view x.defined (states i)) (t i))
     (leads : (i : ℕ) → (t i).target ≡ states (i + 1))
     (true_there : (i : ℕ) → truth (word i) (t i).label ≡ true) where
-  found : (i : ℕ) → (number : ℕ) × (edge : BodyEdge) × IsTransition x view number edge (t i) × (edge.source.number ≡ states i)
-  found i = found_transition x view counted automaton plain (states i) (t i) (moves i)
+  found : (i : ℕ) → (number : ℕ) × (edge : BodyEdge) × IsPlainEdge x view number edge (t i) × (edge.source.number ≡ states i)
+  found i = found_plain_edge x view counted automaton plain (states i) (t i) (moves i)
 
   step : (i : ℕ) → IsStep x (states i) (found i).0 (states (i + 1))
   step i =
@@ -100,20 +100,20 @@ module _ (x : Description) (view : View) (counted : length x.propositions ≡ vi
 
 module _ (one other a : Description) (automaton : IsAutomaton one) (automaton' : IsAutomaton other)
     (plain : has_universal_branching one ≡ false) (plain' : has_universal_branching other ≡ false) (is : IsProduct one other a) where
-  abbrev pub firsts : ℕ → List Transition
-  firsts s = transitions_at (first_view one other) one.defined s
+  abbrev pub firsts : ℕ → List PlainEdge
+  firsts s = plain_edges_at (first_view one other) one.defined s
 
-  abbrev pub seconds : ℕ → List Transition
-  seconds s = transitions_at (second_view one other) other.defined s
+  abbrev pub seconds : ℕ → List PlainEdge
+  seconds s = plain_edges_at (second_view one other) other.defined s
 
   -- an edge of the product, taken apart
   pub record IsJoint (edge : BodyEdge) : Type 0 where
     pub pair : Pair
     pub within : Contains is.pairs pair
     pub here : edge.source.number ≡ pair_number is.pairs pair
-    pub first : Transition
+    pub first : PlainEdge
     pub first_in : Contains (firsts pair.0) first
-    pub second : Transition
+    pub second : PlainEdge
     pub second_in : Contains (seconds pair.1) second
     pub meets : can_meet first second ≡ true
     pub edge_is : IsJointEdge (taken_together is.pairs first second) edge.edge
@@ -125,11 +125,11 @@ module _ (one other a : Description) (automaton : IsAutomaton one) (automaton' :
   joint_of number edge at =
       let from : IsListed a.defined edge = listed_flat a.defined edge (contains_at (edges_of a) number edge at) in
       let state = beside_right (IsPairState one other is.pairs) is.pairs a.defined is.defined edge.source (from.place, from.below, sym from.here) in
-      let joint = beside_right IsJointEdge (joint_transitions is.pairs (firsts state.0.0) (seconds state.0.1)) edge.source.edges state.2.edges edge.edge from.contained in
-      let first = flat_map_contains (λ (t : Transition). map (taken_together is.pairs t) (partners t (seconds state.0.1))) (firsts state.0.0) joint.0 joint.1 in
+      let joint = beside_right IsJointEdge (joint_plain_edges is.pairs (firsts state.0.0) (seconds state.0.1)) edge.source.edges state.2.edges edge.edge from.contained in
+      let first = flat_map_contains (λ (t : PlainEdge). map (taken_together is.pairs t) (partners t (seconds state.0.1))) (firsts state.0.0) joint.0 joint.1 in
       let second = map_contains (taken_together is.pairs first.0) (partners first.0 (seconds state.0.1)) joint.0 first.2 in
       let meet = filter_contains (can_meet first.0) (seconds state.0.1) second.0 second.1 in
-      let P : Transition → Type 0 = λ t. IsJointEdge t edge.edge in
+      let P : PlainEdge → Type 0 = λ t. IsJointEdge t edge.edge in
       record {
         pair = state.0;
         within = state.1;
@@ -146,32 +146,32 @@ module _ (one other a : Description) (automaton : IsAutomaton one) (automaton' :
       }
 
   -- and edges of both put together
-  put_together : (pair : Pair) → Contains is.pairs pair → (t u : Transition) → Contains (firsts pair.0) t → Contains (seconds pair.1) u → can_meet t u ≡ true
+  put_together : (pair : Pair) → Contains is.pairs pair → (t u : PlainEdge) → Contains (firsts pair.0) t → Contains (seconds pair.1) u → can_meet t u ≡ true
       → (number : ℕ) × (edge : BodyEdge) × (edge_at a number ≡ Some edge) × (edge.source.number ≡ pair_number is.pairs pair)
       × IsJointEdge (taken_together is.pairs t u) edge.edge × (edge.source.label ≡ None) × (edge.source.marks ≡ [])
   put_together pair within t u t_in u_in meets =
       let state = beside_left (IsPairState one other is.pairs) is.pairs a.defined is.defined pair within in
       let partner : Contains (partners t (seconds pair.1)) u = contains_filter (can_meet t) (seconds pair.1) u u_in meets in
-      let joint : Contains (joint_transitions is.pairs (firsts pair.0) (seconds pair.1)) (taken_together is.pairs t u) =
-      contains_flat_map (λ (t : Transition). map (taken_together is.pairs t) (partners t (seconds pair.1))) (firsts pair.0) t (taken_together is.pairs t u) t_in
+      let joint : Contains (joint_plain_edges is.pairs (firsts pair.0) (seconds pair.1)) (taken_together is.pairs t u) =
+      contains_flat_map (λ (t : PlainEdge). map (taken_together is.pairs t) (partners t (seconds pair.1))) (firsts pair.0) t (taken_together is.pairs t u) t_in
       (contains_map (taken_together is.pairs t) (partners t (seconds pair.1)) u partner) in
-      let edge = beside_left IsJointEdge (joint_transitions is.pairs (firsts pair.0) (seconds pair.1)) state.0.edges state.2.edges (taken_together is.pairs t u) joint in
+      let edge = beside_left IsJointEdge (joint_plain_edges is.pairs (firsts pair.0) (seconds pair.1)) state.0.edges state.2.edges (taken_together is.pairs t u) joint in
       let body : BodyEdge = record { source = state.0; edge = edge.0 } in
       let at = index_of (edges_of a) body (contains_flat a.defined state.1.0 state.0 edge.0 state.1.1 (sym state.1.2) edge.1) in
       (at.0, body, at.1, state.2.number, edge.2, state.2.label, state.2.marks)
 
   -- the pair that both lead to is among the pairs
-  pub leads_to : (pair : Pair) → Contains is.pairs pair → (t u : Transition) → Contains (firsts pair.0) t → Contains (seconds pair.1) u → can_meet t u ≡ true
+  pub leads_to : (pair : Pair) → Contains is.pairs pair → (t u : PlainEdge) → Contains (firsts pair.0) t → Contains (seconds pair.1) u → can_meet t u ≡ true
       → Contains is.pairs (t.target, u.target)
   leads_to pair within t u t_in u_in meets =
       targets_found one other is.pairs is.reached pair (t.target, u.target) within
-      (contains_flat_map (λ (t : Transition). map (λ (u : Transition). (t.target, u.target)) (partners t (seconds pair.1))) (firsts pair.0) t (t.target, u.target) t_in
-      (contains_map (λ (u : Transition). (t.target, u.target)) (partners t (seconds pair.1)) u (contains_filter (can_meet t) (seconds pair.1) u u_in meets)))
+      (contains_flat_map (λ (t : PlainEdge). map (λ (u : PlainEdge). (t.target, u.target)) (partners t (seconds pair.1))) (firsts pair.0) t (t.target, u.target) t_in
+      (contains_map (λ (u : PlainEdge). (t.target, u.target)) (partners t (seconds pair.1)) u (contains_filter (can_meet t) (seconds pair.1) u u_in meets)))
 
   -- marks of edges of the first are below its count of sets
-  pub first_low : (s : ℕ) (t : Transition) → Contains (firsts s) t → (marks : List ℕ) × (t.marks ≡ map (λ m. 0 + m) marks) × ((m : ℕ) → Contains marks m → m < one.sets)
+  pub first_low : (s : ℕ) (t : PlainEdge) → Contains (firsts s) t → (marks : List ℕ) × (t.marks ≡ map (λ m. 0 + m) marks) × ((m : ℕ) → Contains marks m → m < one.sets)
   first_low s t within =
-      let f = found_transition one (first_view one other) refl automaton plain s t within in
+      let f = found_plain_edge one (first_view one other) refl automaton plain s t within in
       let kept = edge_kept one automaton f.0 f.1 f.2.numbered in (
         marks_of f.1,
         f.2.marks,
@@ -180,13 +180,13 @@ module _ (one other a : Description) (automaton : IsAutomaton one) (automaton' :
       )
 
   -- the marks of both hold what each does
-  pub first_moved : (s s' : ℕ) (t u : Transition) (all : List ℕ) → Contains (firsts s) t → Contains (seconds s') u → AreMarksOf (t.marks ++ u.marks) all
+  pub first_moved : (s s' : ℕ) (t u : PlainEdge) (all : List ℕ) → Contains (firsts s) t → Contains (seconds s') u → AreMarksOf (t.marks ++ u.marks) all
       → (marks : List ℕ) → t.marks ≡ map (λ m. 0 + m) marks → HoldsMoved one.sets 0 marks all
   first_moved s s' t u all t_in u_in are marks e set below =
-      let g = found_transition other (second_view one other) refl automaton' plain' s' u u_in in
+      let g = found_plain_edge other (second_view one other) refl automaton' plain' s' u u_in in
       first_holds set one.sets marks (marks_of g.1) all below (subst (λ ms. AreMarksOf ms all) (ap₂ ◌++◌ e g.2.marks) are)
 
-  second_moved : (s s' : ℕ) (t u : Transition) (all : List ℕ) → Contains (firsts s) t → Contains (seconds s') u → AreMarksOf (t.marks ++ u.marks) all
+  second_moved : (s s' : ℕ) (t u : PlainEdge) (all : List ℕ) → Contains (firsts s) t → Contains (seconds s') u → AreMarksOf (t.marks ++ u.marks) all
       → (marks : List ℕ) → u.marks ≡ map (λ m. one.sets + m) marks → HoldsMoved other.sets one.sets marks all
   second_moved s s' t u all t_in u_in are marks e set below =
       let f = first_low s t t_in in
@@ -304,11 +304,11 @@ module _ (one other a : Description) (automaton : IsAutomaton one) (automaton' :
       abbrev second_edge : ℕ → BodyEdge
       second_edge i = (accepted'.taken i).edge
 
-      first_at : (i : ℕ) → (t : Transition) × Contains (firsts (first_edge i).source.number) t × IsTransition one (first_view one other) (accepted.edges i) (first_edge i) t
-      first_at i = listed_transition one (first_view one other) refl automaton plain (accepted.edges i) (first_edge i) (accepted.taken i).numbered
+      first_at : (i : ℕ) → (t : PlainEdge) × Contains (firsts (first_edge i).source.number) t × IsPlainEdge one (first_view one other) (accepted.edges i) (first_edge i) t
+      first_at i = listed_plain_edge one (first_view one other) refl automaton plain (accepted.edges i) (first_edge i) (accepted.taken i).numbered
 
-      second_at : (i : ℕ) → (t : Transition) × Contains (seconds (second_edge i).source.number) t × IsTransition other (second_view one other) (accepted'.edges i) (second_edge i) t
-      second_at i = listed_transition other (second_view one other) refl automaton' plain' (accepted'.edges i) (second_edge i) (accepted'.taken i).numbered
+      second_at : (i : ℕ) → (t : PlainEdge) × Contains (seconds (second_edge i).source.number) t × IsPlainEdge other (second_view one other) (accepted'.edges i) (second_edge i) t
+      second_at i = listed_plain_edge other (second_view one other) refl automaton' plain' (accepted'.edges i) (second_edge i) (accepted'.taken i).numbered
 
       first_same : (i : ℕ) → (accepted.accepting.run.steps i).edge ≡ first_edge i
       first_same i = same_some _ _ (sym (accepted.accepting.run.steps i).numbered ∙ (accepted.taken i).numbered)

@@ -14,7 +14,7 @@ use Rattle.omega_hoa_automaton.proofs.MarkLemmas.{rising_is_one}
 use Rattle.omega_lang_product.specs.Acceptance.{IsJointAcceptance}
 use Rattle.omega_lang_product.specs.Pairs.{Pair, pair_number, start_pairs}
 use Rattle.omega_lang_product.specs.Product.{IsJointEdge, IsPairState, joint_edges_of}
-use Rattle.omega_lang_product.specs.declared.transition.Transition.{Transition}
+use Rattle.omega_lang_product.specs.declared.plain_edge.PlainEdge.{PlainEdge}
 use Rattle.omega_lang_product.proofs.PairsOne.{pairs_one}
 use Rattle.omega_lang_word_laws.specs.Products.{ProductsAreOne}
 
@@ -48,7 +48,7 @@ marks_one written marks others first second =
 abbrev edge_with : Option LabelTree → List ℕ → List ℕ → Edge
 edge_with label targets marks = record { label = label; targets = targets; marks = marks }
 
-edge_one : (t : Transition) (a b : Edge) → IsJointEdge t a → IsJointEdge t b → a ≡ b
+edge_one : (t : PlainEdge) (a b : Edge) → IsJointEdge t a → IsJointEdge t b → a ≡ b
 edge_one t a b first second =
     ap (λ x. edge_with x a.targets a.marks) (first.label ∙ sym second.label)
     ∙ ap (λ x. edge_with b.label x a.marks) (first.targets ∙ sym second.targets)

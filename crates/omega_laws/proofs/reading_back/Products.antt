@@ -24,9 +24,9 @@ use Rattle.omega_lang_product.specs.Joining.{joined_names}
 use Rattle.omega_lang_product.specs.Limits.{IsWithin}
 use Rattle.omega_hoa_edges.specs.Limits.{most_states}
 use Rattle.omega_lang_product.specs.Pairs.{Pair, first_leaving, pair_number, same_pair, second_leaving, start_pairs}
-use Rattle.omega_lang_product.specs.Product.{joint_transitions}
+use Rattle.omega_lang_product.specs.Product.{joint_plain_edges}
 use Rattle.omega_lang_product.specs.Written.{IsWritten, name_items, raw_edge, raw_product, raw_start, raw_state_of}
-use Rattle.omega_lang_product.specs.declared.transition.Transition.{Transition}
+use Rattle.omega_lang_product.specs.declared.plain_edge.PlainEdge.{PlainEdge}
 use Rattle.omega_lang_product.proofs.Formulas.{place_within}
 use Rattle.omega_lang_product.proofs.Meaning.{sets_written, states_written}
 use Rattle.omega_hoa_round_trips.specs.Laws.{ReadAutomataAreWritable, WasRead}
@@ -61,14 +61,14 @@ module _ (mean : WrittenLabelsMean) (formulas : WrittenFormulasMean) (one other 
   number_small pair = let within = place_within (same_pair pair) pairs in omega (arith, within, few)
 
   -- states of the product
-  edges_read : (ts : List Transition) → AllByRecursion IsReadEdge (map raw_edge ts)
+  edges_read : (ts : List PlainEdge) → AllByRecursion IsReadEdge (map raw_edge ts)
   edges_read ts = all_made IsReadEdge raw_edge ts (λ t. record { label = (mean [] t.label).is })
 
   state_read : (pair : Pair) → IsReadState (raw_state_of one other pairs pair)
   state_read pair = record {
     label = tt;
     name = name_quotable one other own its pair;
-    edges = edges_read (joint_transitions pairs (first_leaving one other pair) (second_leaving one other pair));
+    edges = edges_read (joint_plain_edges pairs (first_leaving one other pair) (second_leaving one other pair));
   }
 
   -- the header

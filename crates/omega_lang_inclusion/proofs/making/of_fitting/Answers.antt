@@ -2,7 +2,7 @@
 use Rattle.std.proofs.Common.{subst}
 use Rattle.std.proofs.lemmas.Result.{IfErr-weaker, IfOk-weaker}
 use Rattle.omega_hoa_automaton.specs.Meaning.{Means}
-use Rattle.omega_lang_complement.specs.Refusing.{BreaksLimit}
+use Rattle.omega_hoa_automaton.specs.Faults.{BreaksLimit}
 use Rattle.omega_hoa_edges.proofs.Refusals.{large_weaker}
 use Rattle.omega_lang_inclusion.specs.Written.{HasNoAutomaton, breaks_limit}
 use Rattle.omega_lang_inclusion.proofs.making.of_fitting.Goals as goal

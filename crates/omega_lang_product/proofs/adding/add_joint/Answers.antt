@@ -12,7 +12,7 @@ pub returns-clause-edges : goal.returns-clause-edges
 returns-clause-edges c =
     let first = numbered_edge c.args.first.now in
     let second = numbered_edge c.args.second.now in
-    let target : Pair = (first.transition.target, second.transition.target) in
+    let target : Pair = (first.plain_edge.target, second.plain_edge.target) in
     let old : List Pair = c.args.pairs.now.keys in
     let keys : c.insert_full.new.self.keys ≡ insert_key same_pair old target = c.in_ok-place.ensures.keys ∙ ap (insert_key same_pair old) c.joint_target.ensures in
     let none : 0 + c.in_ok-place.place ≡ c.in_ok-place.place = omega arith in

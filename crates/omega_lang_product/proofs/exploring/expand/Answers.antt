@@ -7,7 +7,7 @@ use Rattle.omega_lang_product.specs.PairGraph.{joints_at}
 use Rattle.omega_lang_product.specs.Pairs.{Pair, first_leaving, first_view, pair_number, second_view, targets_between, with_pairs}
 use Rattle.omega_lang_product.specs.private.Adding.{numbered_in}
 use Rattle.omega_lang_product.specs.private.Meeting.{HasUnmet, MeetByIndex}
-use Rattle.omega_lang_product.specs.declared.transition.Transition.{Transition}
+use Rattle.omega_lang_product.specs.declared.plain_edge.PlainEdge.{PlainEdge}
 use Rattle.omega_lang_product.proofs.Joints.{found_edges}
 use Rattle.omega_lang_product.proofs.exploring.expand.Goals as goal
 
@@ -26,8 +26,8 @@ returns-clause-err c =
     let other = c.args.operands.now.other.now in
     let first = c.row_of-firsts.ensures (first_view one other) one.defined c.requires.tabled.firsts in
     let second = c.row_of-seconds.ensures (second_view one other) other.defined c.requires.tabled.seconds in
-    subst (λ (us : List Transition). IfErr c.add_joints.result (or_task (HasUnmet (first_leaving one other c.args.pair) us) (or_memory never))) second.edges
-    (subst (λ (ts : List Transition). IfErr c.add_joints.result (or_task (HasUnmet ts c.row_of-seconds.result.edges.now) (or_memory never))) first.edges c.add_joints.ensures.err)
+    subst (λ (us : List PlainEdge). IfErr c.add_joints.result (or_task (HasUnmet (first_leaving one other c.args.pair) us) (or_memory never))) second.edges
+    (subst (λ (ts : List PlainEdge). IfErr c.add_joints.result (or_task (HasUnmet ts c.row_of-seconds.result.edges.now) (or_memory never))) first.edges c.add_joints.ensures.err)
 
 pub returns-clause-edges : goal.returns-clause-edges
 returns-clause-edges c =
@@ -49,5 +49,5 @@ add_joints-requires c =
     let other = c.args.operands.now.other.now in
     let first = c.row_of-firsts.ensures (first_view one other) one.defined c.requires.tabled.firsts in
     let second = c.row_of-seconds.ensures (second_view one other) other.defined c.requires.tabled.seconds in
-    λ by_index. subst (λ (ts : List Transition). MeetByIndex ts c.row_of-seconds.result.edges.now) (sym first.edges)
+    λ by_index. subst (λ (ts : List PlainEdge). MeetByIndex ts c.row_of-seconds.result.edges.now) (sym first.edges)
     (subst (MeetByIndex (first_leaving one other c.args.pair)) (sym second.edges) (c.meet_by_index-by_index.ensures by_index))

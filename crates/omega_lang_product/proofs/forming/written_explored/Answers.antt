@@ -8,7 +8,8 @@ use Rattle.omega_hoa_syntax.specs.declared.raw_state.RawState.{RawState}
 use Rattle.omega_hoa_edges.specs.Limits.{most_edges}
 use Rattle.omega_lang_product.specs.Refusing.{HasDeepMeeting, deep_meeting}
 use Rattle.omega_lang_product.specs.private.Faults.{IsProductFault}
-use Rattle.omega_lang_product.specs.Written.{raw_of, raw_state_of}
+use Rattle.omega_lang_product.specs.Written.{raw_state_of}
+use Rattle.omega_hoa_automaton.specs.Written.{raw_automaton}
 use Rattle.omega_lang_product.proofs.Refused.{large_in_product}
 use Rattle.omega_hoa_edges.proofs.Refusals.{memory_task, passed_on}
 use Rattle.omega_lang_product.proofs.forming.written_explored.Goals as goal
@@ -33,7 +34,7 @@ returns-in-Ok-clause-written c =
       name = c.in-Ok.ensures.header.name;
       formula = c.in-Ok.ensures.header.formula;
       accepted = c.in-Ok.ensures.header.accepted;
-      is = is ∙ ap₂ raw_of c.in-Ok.ensures.header.is c.in_ok-states.ensures.states;
+      is = is ∙ ap₂ raw_automaton c.in-Ok.ensures.header.is c.in_ok-states.ensures.states;
     })
     c.raw_automaton_of.ensures.ok
 

@@ -6,7 +6,8 @@ use Rattle.omega_hoa_automaton.specs.Faults.{automaton_fault_of}
 use Rattle.omega_hoa_automaton.specs.Meaning.{Means}
 use Rattle.omega_hoa_syntax.specs.declared.raw_automaton.RawAutomaton.{RawAutomaton}
 use Rattle.omega_hoa_edges.proofs.Refusals.{large_weaker}
-use Rattle.omega_lang_trim.specs.Refusing.{BreaksLimit, IsTooLarge, PassesLimit, broken_limit}
+use Rattle.omega_lang_trim.specs.Refusing.{IsTooLarge, PassesLimit, broken_limit}
+use Rattle.omega_hoa_automaton.specs.Faults.{BreaksLimit}
 use Rattle.omega_lang_trim.specs.Trimmed.{trimmed}
 use Rattle.omega_lang_trim.specs.Written.{written}
 use Rattle.omega_lang_trim.proofs.Meant.{automaton_meant, trimmed_rises}

@@ -5,7 +5,8 @@ use Rattle.omega_hoa_automaton.specs.Automaton.{Description}
 use Rattle.omega_hoa_automaton.specs.Faults.{automaton_fault_of}
 use Rattle.omega_hoa_edges.proofs.Refusals.{large_weaker, passed_on}
 use Rattle.omega_lang_product.specs.Limits.{IsWithin}
-use Rattle.omega_lang_trim.specs.Refusing.{BreaksLimit, broken_limit}
+use Rattle.omega_lang_trim.specs.Refusing.{broken_limit}
+use Rattle.omega_hoa_automaton.specs.Faults.{BreaksLimit}
 use Rattle.omega_lang_union.specs.Refusing.{IsOversized, IsUnionTooLarge, many_sets, passes_limit}
 use Rattle.omega_lang_union.specs.Union.{united}
 use Rattle.omega_lang_union.specs.private.Operands.{HaveManySets}

@@ -3,7 +3,7 @@ use Rattle.std.proofs.Common.{◌≡◌, ◌<◌, ℕ, List, length, get_or, ap,
 use Rattle.std.proofs.lemmas.List.{length-map}
 use Rattle.omega_hoa_automaton.specs.declared.state.State.{State}
 use Rattle.omega_hoa_edges.specs.Labels.{is_full}
-use Rattle.omega_lang_product.specs.Transitions.{View}
+use Rattle.omega_lang_product.specs.PlainEdges.{View}
 use Rattle.omega_lang_product.specs.private.Meeting.{AreByValuation}
 use Rattle.omega_lang_product.specs.private.Tables.{IsTableOf, view_in}
 use Rattle.omega_lang_product.proofs.Made.{row_here}

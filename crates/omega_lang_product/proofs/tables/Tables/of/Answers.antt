@@ -1,7 +1,7 @@
 -- the tables see both automata as the product does
 use Rattle.std.proofs.Common.{◌≡◌, ap₂, subst, ◌∙◌}
 use Rattle.omega_lang_product.specs.Joining.{joined_names, places_among}
-use Rattle.omega_lang_product.specs.Transitions.{View}
+use Rattle.omega_lang_product.specs.PlainEdges.{View}
 use Rattle.omega_lang_product.specs.private.Tables.{IsTableOf}
 use Rattle.omega_lang_product.proofs.Formulas.{view_first, view_second}
 use Rattle.omega_lang_product.proofs.tables.Tables.of.Goals as goal

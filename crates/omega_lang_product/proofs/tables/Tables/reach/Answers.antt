@@ -1,7 +1,7 @@
 -- the edges of the first state are made, and then those of the second
 use Rattle.std.proofs.Common.{ap, arith}
 use Rattle.omega_lang_product.specs.Pairs.{first_view, second_view}
-use Rattle.omega_lang_product.specs.Transitions.{View}
+use Rattle.omega_lang_product.specs.PlainEdges.{View}
 use Rattle.omega_lang_product.proofs.tables.Tables.reach.Goals as goal
 
 pub reach-requires-clause-table : goal.reach-requires-clause-table

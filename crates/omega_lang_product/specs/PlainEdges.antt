@@ -7,7 +7,7 @@ use Rattle.omega_hoa_label.specs.Label.{LabelTree, propositions, truth}
 use Rattle.omega_hoa_automaton.specs.declared.edge.Edge.{Edge}
 use Rattle.omega_hoa_automaton.specs.declared.state.State.{State}
 use Rattle.omega_hoa_label.specs.Renumbering.{relabelled}
-use Rattle.omega_lang_product.specs.declared.transition.Transition.{Transition}
+use Rattle.omega_lang_product.specs.declared.plain_edge.PlainEdge.{PlainEdge}
 use Rattle.omega_hoa_edges.specs.Labels.{label_at}
 
 -- how a product sees an automaton: its number of propositions, their places among the joined ones, and how many sets
@@ -18,25 +18,25 @@ pub record View : Type 0 where
   pub before : ℕ
 
 -- the edge of a state with an index
-abbrev pub transition_of : View → State → ℕ → Edge → Transition
-transition_of view state index edge = record {
+abbrev pub plain_edge_of : View → State → ℕ → Edge → PlainEdge
+plain_edge_of view state index edge = record {
   label = relabelled view.places (label_at view.count state index edge);
   target = slice_index_or edge.targets 0 0;
   marks = map (λ set. view.before + set) (state.marks ++ edge.marks);
 }
 
 -- edges of a state, counted from an index
-abbrev pub transitions_from : View → State → ℕ → List Edge → List Transition
-transitions_from view state index [] = []
-transitions_from view state index (edge ∷ edges) =
-    transition_of view state index edge ∷ transitions_from view state (index + 1) edges
+abbrev pub plain_edges_from : View → State → ℕ → List Edge → List PlainEdge
+plain_edges_from view state index [] = []
+plain_edges_from view state index (edge ∷ edges) =
+    plain_edge_of view state index edge ∷ plain_edges_from view state (index + 1) edges
 
 -- the edges of the first state with a number, empty if there is no such state
-abbrev pub transitions_at : View → List State → ℕ → List Transition
-transitions_at view [] number = []
-transitions_at view (state ∷ states) number =
-    if state.number == number then transitions_from view state 0 state.edges
-    else transitions_at view states number
+abbrev pub plain_edges_at : View → List State → ℕ → List PlainEdge
+plain_edges_at view [] number = []
+plain_edges_at view (state ∷ states) number =
+    if state.number == number then plain_edges_from view state 0 state.edges
+    else plain_edges_at view states number
 
 -- the values `held`, but with `value` for the proposition `p`
 abbrev pub with_value : ℕ → Bool → (ℕ → Bool) → ℕ → Bool

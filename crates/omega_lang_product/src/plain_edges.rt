@@ -2,14 +2,14 @@
 
 ghost use Rattle.std.specs.Prelude.{◌≡◌, ◌+◌, ◌++◌, IfErr, IfOk, IsOkUnless, OnOk, map};
 ghost use Rattle.omega_lang_product.specs.Refusing.{HasUnfitEdge};
-ghost use Rattle.omega_lang_product.specs.Transitions.{transition_of as transition_of_edge};
+ghost use Rattle.omega_lang_product.specs.PlainEdges.{plain_edge_of as plain_edge_of_edge};
 ghost use Rattle.omega_lang_product.specs.private.Room.{HasRoom, HaveRoom};
 ghost use Rattle.omega_lang_product.specs.private.Tables.{label_in_product, row_of, view_of};
 ghost use Rattle.omega_hoa_edges.specs.Fitting.{IsLarge, IsUnfit};
 
 use crate::renumbering::Renumbering;
 use crate::tabled::Tabled;
-use crate::transition::Transition;
+use crate::plain_edge::PlainEdge;
 use omega_hoa_automaton::{EdgeRef, State};
 use omega_hoa_edges::{edge_label, judge_size};
 use omega_hoa_label::Label;
@@ -18,7 +18,7 @@ use std::alloc::Global;
 
 /// Returns the edges of `state` as the product sees them. Fails with [TaskFault::TooLarge] if a label is too deep or
 /// too large.
-pub(crate) fn transitions_of(
+pub(crate) fn plain_edges_of(
     alloc: Global,
     state: &State,
     renumbering: &Renumbering<'_>,
@@ -30,8 +30,8 @@ pub(crate) fn transitions_of(
     let mut row = Vec::with_capacity(alloc, state.edges.len())?;
     for at in 0..state.edges.len() {
         let edge = state.edges.edge(at);
-        let transition = transition_of(alloc, state, &edge, at, renumbering)?;
-        let tabled = Tabled::of(alloc, transition)?;
+        let plain_edge = plain_edge_of(alloc, state, &edge, at, renumbering)?;
+        let tabled = Tabled::of(alloc, plain_edge)?;
         row.push(tabled)?;
     }
     Ok(Seq::from_vec(row))
@@ -39,17 +39,17 @@ pub(crate) fn transitions_of(
 
 /// Returns the edge `edge` of `state`, whose index is `at`, as the product sees it. Fails with [TaskFault::TooLarge] if
 /// its label is too deep or too large.
-fn transition_of<'a>(
+fn plain_edge_of<'a>(
     alloc: Global,
     state: &'a State,
     edge: &EdgeRef<'a>,
     at: usize,
     renumbering: &Renumbering<'_>,
-) -> Result<Transition, Refusal>
+) -> Result<PlainEdge, Refusal>
     requires of_state { HaveRoom renumbering.now.before state.now.marks }
     requires of_edge { HaveRoom renumbering.now.before edge.now.marks }
-    ensures ok { IfOk result (λ transition.
-        transition ≡ transition_of_edge (view_of renumbering.now) state.now at edge.now) }
+    ensures ok { IfOk result (λ plain_edge.
+        plain_edge ≡ plain_edge_of_edge (view_of renumbering.now) state.now at edge.now) }
     ensures err { IfErr result
         (IsUnfit (label_in_product renumbering.now.places.now state.now at edge.now)) }
 {
@@ -62,7 +62,7 @@ fn transition_of<'a>(
         edge.marks(),
         renumbering.before,
     )?;
-    Ok(Transition {
+    Ok(PlainEdge {
         label,
         target,
         marks,

@@ -1,4 +1,4 @@
--- The transitions of an automaton within a product are its edges.
+-- The plain edges of an automaton within a product are its edges.
 use Rattle.std.proofs.Common.{◌≡◌, ◌==◌, ◌↔◌, ℕ, zero, suc, ◌+◌, ◌-◌, ◌<◌, ◌≤◌, ◌⊎◌, inl, inr, Bool, true, false, ◌||◌, if◌then◌else◌, nat_eq, nat_lt, List, [], ◌∷◌, ◌++◌, length, map, slice_get, Contains, Option, Some, refl, sym, ap, ap₂, subst, ◌∙◌, arith, eqb-true, eq-eqb, true≢false}
 use Rattle.std.specs.Prelude.{option_map, slice_index_or}
 use Rattle.std.specs.List.{flat_map}
@@ -20,32 +20,32 @@ use Rattle.omega_lang_runs.proofs.Flat.{IsListed, listed_flat}
 use Rattle.omega_lang_runs.proofs.SingleTargets.{EntersOne, enters_one}
 use Rattle.omega_lang_product.specs.Joining.{number_among, relabelled}
 use Rattle.omega_lang_product.specs.JointEdges.{Numbered, numbered_from}
-use Rattle.omega_lang_product.specs.PairGraph.{edges_before}
-use Rattle.omega_lang_product.specs.Transitions.{View, transition_of, transitions_at, transitions_from}
+use Rattle.omega_hoa_automaton.specs.Automaton.{edges_before}
+use Rattle.omega_lang_product.specs.PlainEdges.{View, plain_edge_of, plain_edges_at, plain_edges_from}
 use Rattle.omega_hoa_edges.specs.Labels.{valuation_label}
-use Rattle.omega_lang_product.specs.declared.transition.Transition.{Transition}
+use Rattle.omega_lang_product.specs.declared.plain_edge.PlainEdge.{PlainEdge}
 use Rattle.omega_lang_product.proofs.Valuations.{truth_relabelled}
 use Rattle.omega_lang_word_laws.proofs.meeting.Labels.{valuation_true}
 use Rattle.omega_lang_word_laws.proofs.meeting.Lists.{at_left, at_right, contains_at, contains_map, passes_nowhere, same_some}
 
 module _ (view : View) where
   -- edges of a state at their indices
-  from_contains : (state : State) (first : ℕ) (edges : List Edge) (t : Transition) → Contains (transitions_from view state first edges) t
-      → (k : ℕ) × (edge : Edge) × (slice_get edges k ≡ Some edge) × (t ≡ transition_of view state (first + k) edge)
+  from_contains : (state : State) (first : ℕ) (edges : List Edge) (t : PlainEdge) → Contains (plain_edges_from view state first edges) t
+      → (k : ℕ) × (edge : Edge) × (slice_get edges k ≡ Some edge) × (t ≡ plain_edge_of view state (first + k) edge)
   from_contains state first [] t within = absurd (Contains-nothing t within)
   from_contains state first (edge ∷ edges) t within =
-      elim (Contains-cases (transition_of view state first edge) t (transitions_from view state (first + 1) edges) within) [
+      elim (Contains-cases (plain_edge_of view state first edge) t (plain_edges_from view state (first + 1) edges) within) [
         | inl here ↦
             let e : first ≡ first + 0 = omega arith in
-            (0, edge, refl, sym here ∙ ap (λ i. transition_of view state i edge) e)
+            (0, edge, refl, sym here ∙ ap (λ i. plain_edge_of view state i edge) e)
         | inr later ↦
             let rest = from_contains state (first + 1) edges t later in
             let e : (first + 1) + rest.0 ≡ first + suc rest.0 = omega arith in
-            (suc rest.0, rest.1, rest.2, rest.3 ∙ ap (λ i. transition_of view state i rest.1) e)
+            (suc rest.0, rest.1, rest.2, rest.3 ∙ ap (λ i. plain_edge_of view state i rest.1) e)
       ]
 
   contains_from : (state : State) (first k : ℕ) (edges : List Edge) (edge : Edge) → slice_get edges k ≡ Some edge
-      → Contains (transitions_from view state first edges) (transition_of view state (first + k) edge)
+      → Contains (plain_edges_from view state first edges) (plain_edge_of view state (first + k) edge)
   contains_from state first zero [] edge at = absurd (none at)
     where
       none : slice_get {X = Edge} [] zero ≡ Some edge → ⊥
@@ -56,20 +56,20 @@ module _ (view : View) where
       none e = cc
   contains_from state first zero (x ∷ edges) edge at =
       let e : first ≡ first + 0 = omega arith in
-      let P : Transition → Type 0 = λ t. Contains (transitions_from view state first (x ∷ edges)) t in
-      subst P (ap (transition_of view state first) (same_some x edge at) ∙ ap (λ i. transition_of view state i edge) e)
-      (Contains-here (transition_of view state first x) (transitions_from view state (first + 1) edges))
+      let P : PlainEdge → Type 0 = λ t. Contains (plain_edges_from view state first (x ∷ edges)) t in
+      subst P (ap (plain_edge_of view state first) (same_some x edge at) ∙ ap (λ i. plain_edge_of view state i edge) e)
+      (Contains-here (plain_edge_of view state first x) (plain_edges_from view state (first + 1) edges))
   contains_from state first (suc k) (x ∷ edges) edge at =
       let e : (first + 1) + k ≡ first + suc k = omega arith in
-      let P : Transition → Type 0 = λ t. Contains (transitions_from view state first (x ∷ edges)) t in
-      subst P (ap (λ i. transition_of view state i edge) e)
-      (Contains-there (transition_of view state first x) (transition_of view state ((first + 1) + k) edge) (transitions_from view state (first + 1) edges)
+      let P : PlainEdge → Type 0 = λ t. Contains (plain_edges_from view state first (x ∷ edges)) t in
+      subst P (ap (λ i. plain_edge_of view state i edge) e)
+      (Contains-there (plain_edge_of view state first x) (plain_edge_of view state ((first + 1) + k) edge) (plain_edges_from view state (first + 1) edges)
       (contains_from state (first + 1) k edges edge at))
 
-  -- an edge of the body at a number, and its transition
-  pub record IsListedAt (states : List State) (number : ℕ) (edge : BodyEdge) (t : Transition) : Type 0 where
+  -- an edge of the body at a number, and its plain edge
+  pub record IsListedAt (states : List State) (number : ℕ) (edge : BodyEdge) (t : PlainEdge) : Type 0 where
     pub at : slice_get (flat_map edges_from states) number ≡ Some edge
-    pub is : t ≡ transition_of view edge.source (index_in states number) edge.edge
+    pub is : t ≡ plain_edge_of view edge.source (index_in states number) edge.edge
 
   -- the index of an edge within the first state, and after it
   index_first : (state : State) (states : List State) (k : ℕ) → k < length state.edges → index_in (state ∷ states) k ≡ k
@@ -84,13 +84,13 @@ module _ (view : View) where
       ap (λ b. if b then length state.edges + k else index_in states ((length state.edges + k) - length state.edges)) (not_below (length state.edges) k)
       ∙ ap (index_in states) e
 
-  -- each transition is that of an edge
-  pub found_at : (states : List State) (s : ℕ) (t : Transition) → Contains (transitions_at view states s) t
+  -- each plain edge is that of an edge
+  pub found_at : (states : List State) (s : ℕ) (t : PlainEdge) → Contains (plain_edges_at view states s) t
       → (number : ℕ) × (edge : BodyEdge) × IsListedAt states number edge t × (edge.source.number ≡ s)
   found_at [] s t within = absurd (Contains-nothing t within)
   found_at (state ∷ states) s t within = go (state.number == s) refl within (λ h. found_at states s t h)
     where
-      first : state.number ≡ s → (k : ℕ) × (edge : Edge) × (slice_get state.edges k ≡ Some edge) × (t ≡ transition_of view state (0 + k) edge)
+      first : state.number ≡ s → (k : ℕ) × (edge : Edge) × (slice_get state.edges k ≡ Some edge) × (t ≡ plain_edge_of view state (0 + k) edge)
           → (number : ℕ) × (edge : BodyEdge) × IsListedAt (state ∷ states) number edge t × (edge.source.number ≡ s)
       first same (k, edge, at, is) =
           let body : BodyEdge = record { source = state; edge = edge } in
@@ -100,7 +100,7 @@ module _ (view : View) where
           let index : 0 + k ≡ index_in (state ∷ states) k = e ∙ sym (index_first state states k (slice_get_within state.edges k edge at)) in (
             k,
             body,
-            record { at = at_left (edges_from state) (flat_map edges_from states) k body mapped; is = is ∙ ap (λ i. transition_of view state i edge) index },
+            record { at = at_left (edges_from state) (flat_map edges_from states) k body mapped; is = is ∙ ap (λ i. plain_edge_of view state i edge) index },
             same,
           )
 
@@ -114,46 +114,46 @@ module _ (view : View) where
             record {
               at = ap (slice_get (edges_from state ++ flat_map edges_from states)) e
                   ∙ at_right (edges_from state) (flat_map edges_from states) number ∙ listed.at;
-              is = listed.is ∙ ap (λ i. transition_of view edge.source i edge.edge) (sym (index_later state states number));
+              is = listed.is ∙ ap (λ i. plain_edge_of view edge.source i edge.edge) (sym (index_later state states number));
             },
             same,
           )
 
       go : (b : Bool) → (state.number == s) ≡ b
-          → Contains (if b then transitions_from view state 0 state.edges else transitions_at view states s) t
-          → (Contains (transitions_at view states s) t → (number : ℕ) × (edge : BodyEdge) × IsListedAt states number edge t × (edge.source.number ≡ s))
+          → Contains (if b then plain_edges_from view state 0 state.edges else plain_edges_at view states s) t
+          → (Contains (plain_edges_at view states s) t → (number : ℕ) × (edge : BodyEdge) × IsListedAt states number edge t × (edge.source.number ≡ s))
           → (number : ℕ) × (edge : BodyEdge) × IsListedAt (state ∷ states) number edge t × (edge.source.number ≡ s)
       go true e h rest = first (eqb-true state.number s e) (from_contains state 0 state.edges t h)
       go false e h rest = later (rest h)
 
   -- so is each numbered one, and its number is that of the edge
-  numbered_contains : (state : State) (first n : ℕ) (edges : List Edge) (x : Numbered) → Contains (numbered_from n (transitions_from view state first edges)) x
-      → (k : ℕ) × (edge : Edge) × (slice_get edges k ≡ Some edge) × (x ≡ record { number = n + k; transition = transition_of view state (first + k) edge })
+  numbered_contains : (state : State) (first n : ℕ) (edges : List Edge) (x : Numbered) → Contains (numbered_from n (plain_edges_from view state first edges)) x
+      → (k : ℕ) × (edge : Edge) × (slice_get edges k ≡ Some edge) × (x ≡ record { number = n + k; plain_edge = plain_edge_of view state (first + k) edge })
   numbered_contains state first n [] x within = absurd (Contains-nothing x within)
   numbered_contains state first n (edge ∷ edges) x within =
-      elim (Contains-cases (record { number = n; transition = transition_of view state first edge }) x (numbered_from (n + 1) (transitions_from view state (first + 1) edges)) within) [
+      elim (Contains-cases (record { number = n; plain_edge = plain_edge_of view state first edge }) x (numbered_from (n + 1) (plain_edges_from view state (first + 1) edges)) within) [
         | inl here ↦
             let e : first ≡ first + 0 = omega arith in
             let e' : n ≡ n + 0 = omega arith in
-            (0, edge, refl, sym here ∙ ap₂ {C = Numbered} (λ (m i : ℕ). record { number = m; transition = transition_of view state i edge }) e' e)
+            (0, edge, refl, sym here ∙ ap₂ {C = Numbered} (λ (m i : ℕ). record { number = m; plain_edge = plain_edge_of view state i edge }) e' e)
         | inr later ↦
             let rest = numbered_contains state (first + 1) (n + 1) edges x later in
             let e : (first + 1) + rest.0 ≡ first + suc rest.0 = omega arith in
             let e' : (n + 1) + rest.0 ≡ n + suc rest.0 = omega arith in
-            (suc rest.0, rest.1, rest.2, rest.3 ∙ ap₂ {C = Numbered} (λ (m i : ℕ). record { number = m; transition = transition_of view state i rest.1 }) e' e)
+            (suc rest.0, rest.1, rest.2, rest.3 ∙ ap₂ {C = Numbered} (λ (m i : ℕ). record { number = m; plain_edge = plain_edge_of view state i rest.1 }) e' e)
       ]
 
-  pub numbered_found : (states : List State) (s before : ℕ) (x : Numbered) → Contains (numbered_from (before + edges_before states s) (transitions_at view states s)) x
-      → (k : ℕ) × (edge : BodyEdge) × IsListedAt states k edge x.transition × (edge.source.number ≡ s) × (x.number ≡ before + k)
+  pub numbered_found : (states : List State) (s before : ℕ) (x : Numbered) → Contains (numbered_from (before + edges_before states s) (plain_edges_at view states s)) x
+      → (k : ℕ) × (edge : BodyEdge) × IsListedAt states k edge x.plain_edge × (edge.source.number ≡ s) × (x.number ≡ before + k)
   numbered_found [] s before x within = absurd (Contains-nothing x within)
   numbered_found (state ∷ states) s before x within =
       go (state.number == s) refl within (λ h. numbered_found states s (before + length state.edges) x h)
     where
       Found : List State → ℕ → Type 0
-      Found among from = (k : ℕ) × (edge : BodyEdge) × IsListedAt among k edge x.transition × (edge.source.number ≡ s) × (x.number ≡ from + k)
+      Found among from = (k : ℕ) × (edge : BodyEdge) × IsListedAt among k edge x.plain_edge × (edge.source.number ≡ s) × (x.number ≡ from + k)
 
       first : state.number ≡ s
-          → (k : ℕ) × (edge : Edge) × (slice_get state.edges k ≡ Some edge) × (x ≡ record { number = (before + 0) + k; transition = transition_of view state (0 + k) edge })
+          → (k : ℕ) × (edge : Edge) × (slice_get state.edges k ≡ Some edge) × (x ≡ record { number = (before + 0) + k; plain_edge = plain_edge_of view state (0 + k) edge })
           → Found (state ∷ states) before
       first same (k, edge, at, is) =
           let body : BodyEdge = record { source = state; edge = edge } in
@@ -166,7 +166,7 @@ module _ (view : View) where
             body,
             record {
               at = at_left (edges_from state) (flat_map edges_from states) k body mapped;
-              is = ap (λ (y : Numbered). y.transition) is ∙ ap (λ i. transition_of view state i edge) index;
+              is = ap (λ (y : Numbered). y.plain_edge) is ∙ ap (λ i. plain_edge_of view state i edge) index;
             },
             same,
             ap (λ (y : Numbered). y.number) is ∙ n,
@@ -182,7 +182,7 @@ module _ (view : View) where
             record {
               at = ap (slice_get (edges_from state ++ flat_map edges_from states)) e
                   ∙ at_right (edges_from state) (flat_map edges_from states) number ∙ listed.at;
-              is = listed.is ∙ ap (λ i. transition_of view edge.source i edge.edge) (sym (index_later state states number));
+              is = listed.is ∙ ap (λ i. plain_edge_of view edge.source i edge.edge) (sym (index_later state states number));
             },
             same,
             is ∙ n,
@@ -190,13 +190,13 @@ module _ (view : View) where
 
       go : (b : Bool) → (state.number == s) ≡ b
           → Contains (numbered_from (before + (if b then 0 else length state.edges + edges_before states s))
-          (if b then transitions_from view state 0 state.edges else transitions_at view states s)) x
-          → (Contains (numbered_from ((before + length state.edges) + edges_before states s) (transitions_at view states s)) x → Found states (before + length state.edges))
+          (if b then plain_edges_from view state 0 state.edges else plain_edges_at view states s)) x
+          → (Contains (numbered_from ((before + length state.edges) + edges_before states s) (plain_edges_at view states s)) x → Found states (before + length state.edges))
           → Found (state ∷ states) before
       go true e h rest = first (eqb-true state.number s e) (numbered_contains state 0 (before + 0) state.edges x h)
       go false e h rest =
           let sum : before + (length state.edges + edges_before states s) ≡ (before + length state.edges) + edges_before states s = omega arith in
-          let P : ℕ → Type 0 = λ n. Contains (numbered_from n (transitions_at view states s)) x in
+          let P : ℕ → Type 0 = λ n. Contains (numbered_from n (plain_edges_at view states s)) x in
           later (rest (subst P sum h))
 
   -- an edge that is mapped
@@ -235,7 +235,7 @@ module _ (view : View) where
   -- and each edge has one
   listed_at : (states : List State) → has_repeat nat_eq (map (λ (state : State). state.number) states) ≡ false → (number : ℕ) (edge : BodyEdge)
       → slice_get (flat_map edges_from states) number ≡ Some edge
-      → Contains (transitions_at view states edge.source.number) (transition_of view edge.source (index_in states number) edge.edge)
+      → Contains (plain_edges_at view states edge.source.number) (plain_edge_of view edge.source (index_in states number) edge.edge)
   listed_at [] once zero edge at = absurd (none at)
     where
       none : slice_get {X = BodyEdge} [] zero ≡ Some edge → ⊥
@@ -251,24 +251,24 @@ module _ (view : View) where
       long = length-map state.edges (λ (e : Edge). record { source = state; edge = e })
 
       target : Type 0
-      target = Contains (transitions_at view (state ∷ states) edge.source.number) (transition_of view edge.source (index_in (state ∷ states) number) edge.edge)
+      target = Contains (plain_edges_at view (state ∷ states) edge.source.number) (plain_edge_of view edge.source (index_in (state ∷ states) number) edge.edge)
 
       here : number < length state.edges → (slice_get state.edges number ≡ Some edge.edge) × (state ≡ edge.source)
-          → Contains (transitions_at view (state ∷ states) edge.source.number) (transition_of view edge.source (index_in (state ∷ states) number) edge.edge)
+          → Contains (plain_edges_at view (state ∷ states) edge.source.number) (plain_edge_of view edge.source (index_in (state ∷ states) number) edge.edge)
       here below (inside, same) =
           let b : (state.number == edge.source.number) ≡ true = eq-eqb state.number edge.source.number (ap (λ (s : State). s.number) same) in
           let e : 0 + number ≡ index_in (state ∷ states) number = (let z : 0 + number ≡ number = omega arith in z ∙ sym (index_first state states number below)) in
-          let P : Bool → Type 0 = λ c. Contains (if c then transitions_from view state 0 state.edges else transitions_at view states edge.source.number)
-          (transition_of view edge.source (index_in (state ∷ states) number) edge.edge) in
-          let Q : Transition → Type 0 = λ t. Contains (transitions_from view state 0 state.edges) t in
+          let P : Bool → Type 0 = λ c. Contains (if c then plain_edges_from view state 0 state.edges else plain_edges_at view states edge.source.number)
+          (plain_edge_of view edge.source (index_in (state ∷ states) number) edge.edge) in
+          let Q : PlainEdge → Type 0 = λ t. Contains (plain_edges_from view state 0 state.edges) t in
           subst P (sym b)
-          (subst Q (ap (λ i. transition_of view state i edge.edge) e ∙ ap (λ s. transition_of view s (index_in (state ∷ states) number) edge.edge) same)
+          (subst Q (ap (λ i. plain_edge_of view state i edge.edge) e ∙ ap (λ s. plain_edge_of view s (index_in (state ∷ states) number) edge.edge) same)
           (contains_from state 0 number state.edges edge.edge inside))
 
       there : (k : ℕ) → length state.edges + k ≡ number
           → (slice_get (flat_map edges_from states) k ≡ Some edge)
-          → Contains (transitions_at view states edge.source.number) (transition_of view edge.source (index_in states k) edge.edge)
-          → Contains (transitions_at view (state ∷ states) edge.source.number) (transition_of view edge.source (index_in (state ∷ states) number) edge.edge)
+          → Contains (plain_edges_at view states edge.source.number) (plain_edge_of view edge.source (index_in states k) edge.edge)
+          → Contains (plain_edges_at view (state ∷ states) edge.source.number) (plain_edge_of view edge.source (index_in (state ∷ states) number) edge.edge)
       there k sum inside rest =
           let from : IsListed states edge = listed_flat states edge (contains_at (flat_map edges_from states) k edge inside) in
           let among : Contains states edge.source = (from.place, from.below, sym from.here) in
@@ -277,15 +277,15 @@ module _ (view : View) where
           (contains_map (λ (s : State). s.number) states edge.source among) in
           let b : (state.number == edge.source.number) ≡ false = apart state.number edge.source.number differs in
           let e : index_in states k ≡ index_in (state ∷ states) number = sym (index_later state states k) ∙ ap (index_in (state ∷ states)) sum in
-          let P : Bool → Type 0 = λ c. Contains (if c then transitions_from view state 0 state.edges else transitions_at view states edge.source.number)
-          (transition_of view edge.source (index_in (state ∷ states) number) edge.edge) in
-          let Q : ℕ → Type 0 = λ i. Contains (transitions_at view states edge.source.number) (transition_of view edge.source i edge.edge) in
+          let P : Bool → Type 0 = λ c. Contains (if c then plain_edges_from view state 0 state.edges else plain_edges_at view states edge.source.number)
+          (plain_edge_of view edge.source (index_in (state ∷ states) number) edge.edge) in
+          let Q : ℕ → Type 0 = λ i. Contains (plain_edges_at view states edge.source.number) (plain_edge_of view edge.source i edge.edge) in
           subst P (sym b) (subst Q e rest)
 
       go : (number < length state.edges) ⊎ (length state.edges ≤ number)
           → ((k : ℕ) → slice_get (flat_map edges_from states) k ≡ Some edge
-          → Contains (transitions_at view states edge.source.number) (transition_of view edge.source (index_in states k) edge.edge))
-          → Contains (transitions_at view (state ∷ states) edge.source.number) (transition_of view edge.source (index_in (state ∷ states) number) edge.edge)
+          → Contains (plain_edges_at view states edge.source.number) (plain_edge_of view edge.source (index_in states k) edge.edge))
+          → Contains (plain_edges_at view (state ∷ states) edge.source.number) (plain_edge_of view edge.source (index_in (state ∷ states) number) edge.edge)
       go (inl below) rest =
           here below (mapped_from state state.edges number edge (sym (left_part (edges_from state) (flat_map edges_from states) number (omega (arith, long))) ∙ at))
       go (inr past) rest =
@@ -296,8 +296,8 @@ module _ (view : View) where
           sym (at_right (edges_from state) (flat_map edges_from states) k) ∙ ap (slice_get (edges_from state ++ flat_map edges_from states)) sum' ∙ at in
           there k sum inside (rest k inside)
 
--- a transition of an automaton within a product is that of an edge
-pub record IsTransition (a : Description) (view : View) (number : ℕ) (edge : BodyEdge) (t : Transition) : Type 0 where
+-- a plain edge of an automaton within a product is that of an edge
+pub record IsPlainEdge (a : Description) (view : View) (number : ℕ) (edge : BodyEdge) (t : PlainEdge) : Type 0 where
   pub numbered : edge_at a number ≡ Some edge
   pub target : edge.edge.targets ≡ t.target ∷ []
   pub marks : t.marks ≡ map (λ set. view.before + set) (marks_of edge)
@@ -322,9 +322,9 @@ module _ (a : Description) (view : View) (counted : length a.propositions ≡ vi
       (λ t. allowed.1 (sym e ∙ t), λ t. e ∙ allowed.0 t)
 
   module _ (automaton : IsAutomaton a) (plain : has_universal_branching a ≡ false) where
-    transition_is : (number : ℕ) (edge : BodyEdge) → edge_at a number ≡ Some edge
-        → IsTransition a view number edge (transition_of view edge.source (index_in a.defined number) edge.edge)
-    transition_is number edge at =
+    plain_edge_is : (number : ℕ) (edge : BodyEdge) → edge_at a number ≡ Some edge
+        → IsPlainEdge a view number edge (plain_edge_of view edge.source (index_in a.defined number) edge.edge)
+    plain_edge_is number edge at =
         let enters : EntersOne a.states edge = enters_one a automaton plain number edge at in
         record {
           numbered = at;
@@ -333,19 +333,19 @@ module _ (a : Description) (view : View) (counted : length a.propositions ≡ vi
           label = λ held. label_allows number held (label_of edge);
         }
 
-    -- each transition is that of an edge
-    pub found_transition : (s : ℕ) (t : Transition) → Contains (transitions_at view a.defined s) t
-        → (number : ℕ) × (edge : BodyEdge) × IsTransition a view number edge t × (edge.source.number ≡ s)
-    found_transition s t within =
+    -- each plain edge is that of an edge
+    pub found_plain_edge : (s : ℕ) (t : PlainEdge) → Contains (plain_edges_at view a.defined s) t
+        → (number : ℕ) × (edge : BodyEdge) × IsPlainEdge a view number edge t × (edge.source.number ≡ s)
+    found_plain_edge s t within =
         let found = found_at view a.defined s t within in
-        let P : Transition → Type 0 = λ u. IsTransition a view found.0 found.1 u in
-        (found.0, found.1, subst P (sym found.2.is) (transition_is found.0 found.1 found.2.at), found.3)
+        let P : PlainEdge → Type 0 = λ u. IsPlainEdge a view found.0 found.1 u in
+        (found.0, found.1, subst P (sym found.2.is) (plain_edge_is found.0 found.1 found.2.at), found.3)
 
     -- and each edge has one
-    pub listed_transition : (number : ℕ) (edge : BodyEdge) → edge_at a number ≡ Some edge
-        → (t : Transition) × Contains (transitions_at view a.defined edge.source.number) t × IsTransition a view number edge t
-    listed_transition number edge at = (
-      transition_of view edge.source (index_in a.defined number) edge.edge,
+    pub listed_plain_edge : (number : ℕ) (edge : BodyEdge) → edge_at a number ≡ Some edge
+        → (t : PlainEdge) × Contains (plain_edges_at view a.defined edge.source.number) t × IsPlainEdge a view number edge t
+    listed_plain_edge number edge at = (
+      plain_edge_of view edge.source (index_in a.defined number) edge.edge,
       listed_at view a.defined automaton.once number edge at,
-      transition_is number edge at,
+      plain_edge_is number edge at,
     )

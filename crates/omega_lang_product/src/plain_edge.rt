@@ -4,7 +4,7 @@ use omega_text::Numbers;
 /// An edge of an automaton as its product with another sees it. It has one label over the joined propositions, one
 /// target, and all marks that count on it.
 #[derive(Debug, Drop)]
-pub struct Transition {
+pub struct PlainEdge {
     /// The label, never left out.
     pub label: Label,
     /// The state that it leads to.
