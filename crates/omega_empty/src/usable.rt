@@ -1,7 +1,7 @@
 ghost use Rattle.std.specs.Prelude.{◌≡◌, ◌↔◌, IfErr, IfOk, IsTrue, OnOk};
 ghost use Rattle.std.specs.Option.{option_copied};
 ghost use Rattle.omega_lang_runs.specs.Judging.{AreUsable, HasNarrow, HasNarrowLabels};
-ghost use Rattle.omega_lang_runs.specs.Judging.{HasWide, HasWideLabel, IsNarrow, IsWide};
+ghost use Rattle.omega_lang_runs.specs.Judging.{HasWide, HasWideLabel, IsNarrowLabel, IsWide};
 ghost use Rattle.omega_lang_runs.specs.Lasso.{IsUsable};
 ghost use Rattle.omega_empty.specs.private.layout.Judging.{AppendsJudged, IsWideFault, IsWideRefusal};
 ghost use Rattle.omega_empty.specs.private.layout.Nodes.{body_edge};
@@ -47,7 +47,7 @@ fn judge_edges(alloc: Global, state: &State, usable: &mut Vec<bool>) -> Result<(
 /// propositions.
 fn narrow_state<'a>(alloc: Global, state: &'a State) -> Result<JudgedState<'a>, Refusal>
     ensures state { IfOk result (λ judged. judged ≡ state.entry.now) }
-    ensures narrow { OnOk result (IsNarrow state.entry.now.label) }
+    ensures narrow { OnOk result (IsNarrowLabel state.entry.now.label) }
     ensures refused { IfErr result (IsWideRefusal (IsWide state.entry.now.label)) }
 {
     check_narrow(state.label.as_ref())?;
@@ -58,7 +58,7 @@ fn narrow_state<'a>(alloc: Global, state: &'a State) -> Result<JudgedState<'a>, 
 /// propositions, even if the state has a label, which decides then.
 fn is_usable(alloc: Global, state: &JudgedState<'_>, edge: &EdgeRef<'_>) -> Result<bool, Refusal>
     ensures judged { IfOk result (λ judged. IsTrue judged ↔ IsUsable (body_edge state.now edge.now)) }
-    ensures narrow { OnOk result (IsNarrow edge.now.label) }
+    ensures narrow { OnOk result (IsNarrowLabel edge.now.label) }
     ensures refused { IfErr result (IsWideRefusal (IsWide edge.now.label)) }
 {
     check_narrow(edge.label())?;
@@ -68,7 +68,7 @@ fn is_usable(alloc: Global, state: &JudgedState<'_>, edge: &EdgeRef<'_>) -> Resu
 
 /// Fails with [TaskFault::TooManyPropositions] if there is a label and it mentions too many propositions.
 fn check_narrow(label: Option<&Label>) -> Result<(), Refusal>
-    ensures narrow { OnOk result (IsNarrow (option_copied label.entry)) }
+    ensures narrow { OnOk result (IsNarrowLabel (option_copied label.entry)) }
     ensures refused { IfErr result (IsWideFault (IsWide (option_copied label.entry))) }
 {
     match label {

@@ -11,7 +11,7 @@ use Rattle.omega_hoa_satisfiable.specs.Undecided.{IsHardLabel}
 use Rattle.omega_hoa_automaton.specs.Automaton.{BodyEdge, Description, edges_from}
 use Rattle.omega_hoa_automaton.specs.declared.edge.Edge.{Edge}
 use Rattle.omega_hoa_automaton.specs.declared.state.State.{State}
-use Rattle.omega_lang_runs.specs.Judging.{GivesUpOn, HasHard, HasHardLabel, HasLabelWith, HasNarrow, HasNarrowLabels, HasWide, HasWideLabel, IsLabelIn, IsNarrow, IsWideLabel}
+use Rattle.omega_lang_runs.specs.Judging.{GivesUpOn, HasHard, HasHardLabel, HasLabelWith, HasNarrow, HasNarrowLabels, HasWide, HasWideLabel, IsLabelIn, IsNarrowLabel, IsWideLabel}
 
 -- an edge that a state lists, as an edge of the body
 contains_from : (state : State) (edges : List Edge) (k : ℕ) (edge : Edge) → k < length edges → edge ≡ get_or edges k edge
@@ -83,8 +83,8 @@ wide_refused P Q gives Io refused = refused
 pub narrow_labels : (a : Description) → ((k : ℕ) → k < length a.defined → (d : State) → HasNarrow (get_or a.defined k d)) → HasNarrowLabels a
 narrow_labels a narrow label is_label = go is_label
   where
-    at : (o : Option LabelTree) → IsNarrow o → o ≡ Some label → length (mentioned label) ≤ most_mentioned
-    at o is same = let P : Option LabelTree → Type 0 = λ x. IsNarrow x in subst P same is
+    at : (o : Option LabelTree) → IsNarrowLabel o → o ≡ Some label → length (mentioned label) ≤ most_mentioned
+    at o is same = let P : Option LabelTree → Type 0 = λ x. IsNarrowLabel x in subst P same is
 
     go : IsLabelIn a label → length (mentioned label) ≤ most_mentioned
     go (inl (state, contained, same)) =

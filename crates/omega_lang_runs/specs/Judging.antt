@@ -25,8 +25,8 @@ AreJudged (edge ∷ edges) [] = ⊥
 AreJudged (edge ∷ edges) (entry ∷ entries) = (IsTrue entry ↔ IsUsable edge) × AreJudged edges entries
 
 -- the label, if there is one, mentions at most `most_mentioned` propositions
-abbrev pub IsNarrow : Option LabelTree → Type 0
-IsNarrow label = IfSome label (λ tree. length (mentioned tree) ≤ most_mentioned)
+abbrev pub IsNarrowLabel : Option LabelTree → Type 0
+IsNarrowLabel label = IfSome label (λ tree. length (mentioned tree) ≤ most_mentioned)
 
 -- the label mentions over `most_mentioned` propositions
 abbrev pub IsWideLabel : LabelTree → Type 0
@@ -38,8 +38,8 @@ IsWide label = IsLabelWith IsWideLabel label
 
 -- the labels of the state and of its edges are narrow
 pub record HasNarrow (state : State) : Type 0 where
-  pub own : IsNarrow state.label
-  pub edges : (edge : Edge) → Contains state.edges edge → IsNarrow edge.label
+  pub own : IsNarrowLabel state.label
+  pub edges : (edge : Edge) → Contains state.edges edge → IsNarrowLabel edge.label
 
 -- the label of the state or of one of its edges has the property
 abbrev pub HasLabelWith : (LabelTree → Type 0) → State → Type 0

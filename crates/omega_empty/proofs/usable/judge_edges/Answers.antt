@@ -7,7 +7,7 @@ use Rattle.std.proofs.lemmas.List.Elements.{at_read}
 use Rattle.omega_hoa_automaton.specs.Automaton.{BodyEdge, edges_from}
 use Rattle.omega_hoa_automaton.specs.declared.edge.Edge.{Edge}
 use Rattle.omega_hoa_automaton.specs.declared.state.State.{State}
-use Rattle.omega_lang_runs.specs.Judging.{AreJudged, HasWide, IsNarrow, IsWide}
+use Rattle.omega_lang_runs.specs.Judging.{AreJudged, HasWide, IsNarrowLabel, IsWide}
 use Rattle.omega_lang_runs.specs.Lasso.{IsUsable}
 use Rattle.omega_lang_runs.proofs.Flat.{wide_refused}
 use Rattle.omega_lang_runs.proofs.Judged.{judged_on, judged_one}
@@ -41,6 +41,6 @@ loop-at-preserved c =
             (judged_one one c.in_ok-judged.judged
             (subst (λ (s : State). IsTrue c.in_ok-judged.judged ↔ IsUsable (record { source = s; edge = edge })) c.in_ok-judged_state.ensures.state c.in_ok-judged.ensures.judged))),
       ),
-      below_more (λ k. (d : Edge) → IsNarrow (get_or c.args.state.now.edges k d).label) index c.loop-at.invariant.1
-          (at_read c.args.state.now.edges (λ (e : Edge). IsNarrow e.label) index edge below here c.in_ok-judged.ensures.narrow),
+      below_more (λ k. (d : Edge) → IsNarrowLabel (get_or c.args.state.now.edges k d).label) index c.loop-at.invariant.1
+          (at_read c.args.state.now.edges (λ (e : Edge). IsNarrowLabel e.label) index edge below here c.in_ok-judged.ensures.narrow),
     )
