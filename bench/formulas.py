@@ -4,6 +4,7 @@
     bench/formulas.py                          ./omega alone
     bench/formulas.py --omega path/to/omega    another one
     bench/formulas.py --spin                   beside `spin -f`, on the formulas that it reads: those without X, W, M
+    bench/formulas.py --system                 the time of `satisfies` beside that of `check`, on a system of 100,000 edges
 
 The lists stand in bench/formulas/, a formula a line: the patterns of Dwyer, Avrunin and Corbett (1999), the formulas of
 Somenzi and Bloem (2000), and those of Etessami and Holzmann (2000). Each is translated as it is and negated. Times are
@@ -11,11 +12,14 @@ those of processes, one for each formula, and mean something only beside each ot
 """
 import argparse
 import os
+import random
 import re
 import resource
 import shutil
+import statistics
 import subprocess
 import sys
+import tempfile
 
 HERE = os.path.dirname(os.path.abspath(__file__))
 LISTS = {"Dwyer et al.": "dwyer", "Somenzi, Bloem": "somenzi-bloem", "Etessami, Holzmann": "etessami-holzmann"}
@@ -24,6 +28,10 @@ UNREAD = re.compile(r"\b[XWM]\b")
 SPIN_SIGNS = ((r"\bG\b", "[]"), (r"\bF\b", "<>"), (r"\bR\b", "V"), (r"&", "&&"), (r"\|", "||"), (r"&&&&", "&&"),
               (r"\|\|\|\|", "||"))
 LONGEST = 20
+# A system in which a request comes every tenth step, and its grant five steps later.
+EDGES = 100_000
+RESPONSES = ("G(request -> F grant)", "G(request -> F grant) & G(grant -> F request) & G F idle", "G(request -> X grant)")
+RUNS = 3
 
 
 class Count:
@@ -71,11 +79,51 @@ def claimed(formula: str, negated: bool) -> tuple[int, int, float] | None:
     return len(re.findall(r"^\w+:", text, re.MULTILINE)), text.count("->") + text.count("skip"), seconds
 
 
+def system() -> str:
+    """The text of a system: a ring of states, from each of which another edge leads as far round as any tens of states."""
+    draw, states = random.Random(1), EDGES // 2
+    text = [f'HOA: v1\nStates: {states}\nStart: 0\nAP: 3 "request" "grant" "idle"\nacc-name: all\nAcceptance: 0 t\n--BODY--\n']
+    for at in range(states):
+        label = {0: "0&!1&!2", 5: "!0&1&!2"}.get(at % 10, "!0&!1&2")
+        beyond = 1 + 10 * draw.randrange(states // 10)
+        text.append(f"State: {at}\n[{label}] {(at + 1) % states}\n[{label}] {(at + beyond) % states}\n")
+    return "".join(text) + "--END--\n"
+
+
+def median(words: list[str], statuses: tuple[int, ...]) -> float:
+    """The median of the processor seconds of some runs, which end with one of these statuses."""
+    seconds = []
+    for _ in range(RUNS):
+        before = resource.getrusage(resource.RUSAGE_CHILDREN)
+        done = subprocess.run(words, stdout=subprocess.DEVNULL, timeout=LONGEST)
+        after = resource.getrusage(resource.RUSAGE_CHILDREN)
+        if done.returncode not in statuses:
+            sys.exit(f"{' '.join(words)}: status {done.returncode}")
+        seconds.append(after.ru_utime + after.ru_stime - before.ru_utime - before.ru_stime)
+    return statistics.median(seconds)
+
+
+def write_system_times(omega: str) -> None:
+    """Prints the times of `satisfies` on one system beside that of reading it."""
+    with tempfile.TemporaryDirectory() as folder:
+        file = os.path.join(folder, "system.hoa")
+        with open(file, "w", encoding="utf-8") as out:
+            out.write(system())
+        read = median([omega, "check", "--format", "hoa", file], (0,))
+        print(f"| Formula | `satisfies` | / `check` |\n|---|---|---|\n| none, `check` | {read * 1000:.0f} ms | 1 |")
+        for formula in RESPONSES:
+            took = median([omega, "satisfies", "-f", formula, file], (0, 6))
+            print(f"| `{formula}` | {took * 1000:.0f} ms | {took / read:.2f} |")
+
+
 def main() -> None:
     parser = argparse.ArgumentParser(description=__doc__.split("\n")[0])
     parser.add_argument("--omega", default=os.path.join(HERE, "..", "omega"))
     parser.add_argument("--spin", action="store_true")
+    parser.add_argument("--system", action="store_true")
     given = parser.parse_args()
+    if given.system:
+        return write_system_times(given.omega)
     if given.spin and not shutil.which("spin"):
         sys.exit("spin is not installed")
     heads = ["List", "formulas", "states", "edges", "time"]
