@@ -7,9 +7,9 @@ ghost use Rattle.omega_lang_product.specs.private.Room.{HasRoom, HaveRoom};
 ghost use Rattle.omega_lang_product.specs.private.Tables.{label_in_product, row_of, view_of};
 ghost use Rattle.omega_hoa_edges.specs.Fitting.{IsLarge, IsUnfit};
 
+use crate::plain_edge::PlainEdge;
 use crate::renumbering::Renumbering;
 use crate::tabled::Tabled;
-use crate::plain_edge::PlainEdge;
 use omega_hoa_automaton::{EdgeRef, State};
 use omega_hoa_edges::{edge_label, judge_size};
 use omega_hoa_label::Label;

@@ -11,10 +11,10 @@ ghost use Rattle.omega_lang_product.specs.private.Tables.{AreNumbered, HasRow, I
 ghost use Rattle.omega_lang_product.specs.private.Tables.{row_of as edges_of, view_at, view_in};
 
 use crate::numbers::number_after;
+use crate::plain_edges::plain_edges_of;
 use crate::renumbering::Renumbering;
 use crate::row::Row;
 use crate::tabled::Tabled;
-use crate::plain_edges::plain_edges_of;
 use indexmap::IndexSet;
 use omega_hoa_automaton::{Automaton, State};
 use omega_hoa_edges::is_full;
