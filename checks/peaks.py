@@ -1,6 +1,6 @@
-"""The program's memory at its peak: at most 8 bytes a byte of text, and 12 MB; of formulas, whose reader keeps each
-operator that waits for an operand, at most 24. Tried are the longest texts of one token again and again; a million of each sign, of atoms and of comments in or before a label; and bodies of
-some megabytes, with labels, with marks of 120 sets, and without labels.
+"""The program's memory at its peak: at most 8 bytes a byte of text, and 12 MB. Tried are the longest texts of one token
+again and again; formulas between the most parentheses and of the most names; a million of each sign, of atoms and of
+comments in or before a label; and bodies of some megabytes, with labels, with marks of 120 sets, and without labels.
 
 There is a text of each kind of token.
 """
@@ -13,7 +13,7 @@ from collections.abc import Iterator
 from functools import partial
 
 from automaton_texts import CHECK, huge_texts
-from program import OMEGA, SECONDS, Cases, Fault, shown
+from program import OMEGA, SECONDS, Cases, Fault, output_of, shown
 
 MOST_TEXT = 16_777_216
 CHECK_GAME = ["check", "--format", "pg"]
@@ -29,7 +29,7 @@ print(json.dumps([os.waitstatus_to_exitcode(status), used.ru_maxrss * 1024, wrot
 """
 
 
-def peak_fault(words: list[str], text: bytes, wanted: str, bytes_each: int = 8) -> Fault:
+def peak_fault(words: list[str], text: bytes, wanted: str) -> Fault:
     """Runs the program on a text. What differs from the text wanted on its outputs, or how far its memory went."""
     with tempfile.TemporaryFile() as file:
         file.write(text)
@@ -39,7 +39,7 @@ def peak_fault(words: list[str], text: bytes, wanted: str, bytes_each: int = 8) 
     _, peak, wrote = json.loads(run.stdout)
     if wrote != wanted:
         return f"{shown(wrote.encode())} for {shown(wanted.encode())}"
-    most = bytes_each * len(text) + 12_000_000
+    most = 8 * len(text) + 12_000_000
     return None if peak <= most else f"{peak} bytes of memory for {len(text)} bytes of text, and {most} at most"
 
 
@@ -68,6 +68,18 @@ def formulas_alone() -> Iterator[tuple[bytes, str]]:
     for part, place in ((b")", 0), (b"& ", 0), (b"a ", 2), (b"1", 1), (b'"" ', 3), (b"a) ", 1)):
         yield part, f"3 Syntax at {place}"
     yield b"$", "1 Lex at 0"
+
+
+def parentheses_fault() -> Fault:
+    """Reads a name in parentheses, whose automaton is that of the name alone."""
+    wanted = output_of(["ltl", "-f", "a"], b"")
+    count = (MOST_TEXT - 1) // 2
+    return peak_fault(["ltl"], b"(" * count + b"a" + b")" * count, wanted.decode())
+
+
+def different_names() -> bytes:
+    """A conjunction of different names, nearly as long as a text can be."""
+    return b"&".join(b"a%06x" % number for number in range(MOST_TEXT // 8))
 
 
 def labelled_body(states: int, source: random.Random) -> Iterator[bytes]:
@@ -114,7 +126,9 @@ def peak_checks() -> Cases:
     for words, token, line in tokens_alone():
         yield f"{words[-1]} of {token.decode()}alone", partial(peak_fault, words, alone(token), f"omega: {line}\n")
     for token, line in formulas_alone():
-        yield f"ltl of {token.decode()}alone", partial(peak_fault, ["ltl"], alone(token), f"omega: {line}\n", 24)
+        yield f"ltl of {token.decode()}alone", partial(peak_fault, ["ltl"], alone(token), f"omega: {line}\n")
+    yield "ltl of parentheses around a name", parentheses_fault
+    yield "ltl of different names", partial(peak_fault, ["ltl"], different_names(), "omega: 32 TooDeep\n")
     for label, text, refusal in huge_texts():
         yield label, partial(peak_fault, CHECK, text, "accepted\n" if refusal is None else f"omega: {refusal}\n")
     for label, text in bodies():

@@ -1,13 +1,20 @@
 -- The symbols of a formula lead to a state that is, once operators have taken their last operands, that formula.
-use Rattle.std.proofs.Common.{◌≡◌, ℕ, ◌+◌, ◌<◌, ◌≤◌, ◌⊎◌, inl, inr, Bool, true, false, Some, None, List, [], ◌∷◌, refl, ap, sym, ◌∙◌, subst, arith, nat_le, if◌then◌else◌}
+use Rattle.std.proofs.Common.{◌≡◌, ℕ, ◌+◌, ◌<◌, ◌≤◌, ◌⊎◌, inl, inr, Bool, true, false, Some, None, List, []}
+use Rattle.std.proofs.Common.{◌∷◌, refl, ap, sym, ◌∙◌, subst, arith, nat_le, if◌then◌else◌}
 use Rattle.std.proofs.lemmas.Bool.{cases_order, le-leb, lt-leb}
 use Rattle.omega_ltl_formula.specs.Formula.{FormulaTree, binary, constant as constant_tree, name as name_tree}
 use Rattle.omega_ltl_formula.specs.declared.operators.BinaryOperator.{BinaryOperator}
-use Rattle.omega_ltl_formula.specs.declared.operators.BinaryOperator.TheVariants.{And, Iff, Implies, Or, Release, StrongRelease, Until, WeakUntil, Xor}
+use Rattle.omega_ltl_formula.specs.declared.operators.BinaryOperator.TheVariants.{And, Iff, Implies, Or}
+use Rattle.omega_ltl_formula.specs.declared.operators.BinaryOperator.TheVariants.{Release, StrongRelease}
+use Rattle.omega_ltl_formula.specs.declared.operators.BinaryOperator.TheVariants.{Until, WeakUntil, Xor}
 use Rattle.omega_ltl_formula.specs.declared.operators.UnaryOperator.{UnaryOperator}
-use Rattle.omega_ltl_text.specs.Grammar.{IsGrouped, RawFormula, bare, groups_right, least_left, least_right, level, raw_binary, raw_constant, raw_group, raw_name, raw_symbols, raw_unary, tightness}
+use Rattle.omega_ltl_text.specs.Grammar.{IsGrouped, RawFormula, bare, groups_right, least_left, least_right}
+use Rattle.omega_ltl_text.specs.Grammar.{level, raw_binary, raw_constant, raw_group, raw_name, raw_symbols}
+use Rattle.omega_ltl_text.specs.Grammar.{raw_unary, tightness}
 use Rattle.omega_ltl_text.specs.Symbols.{FormulaSymbol, between, closing}
-use Rattle.omega_ltl_text.specs.private.Reading.{Frame, ReadState, awaiting, closed_by, ended, infixed, initial, opened, prefixed, reading, reduced, run, step, whole}
+use Rattle.omega_ltl_text.specs.private.Reading.{Frame, ReadState, awaiting, closed_by, ended, infixed}
+use Rattle.omega_ltl_text.specs.private.Reading.{initial, opened, prefixed, reading, reduced, run, step}
+use Rattle.omega_ltl_text.specs.private.Reading.{whole}
 use Rattle.omega_ltl_text.proofs.Runs.{run_on, run_push, run_step}
 
 -- the numbers of an operator: its operands bind at least as tight as it does, and at most as parentheses

@@ -1,5 +1,6 @@
 -- What runs say of the tokens of a text: whether they begin one, whether they are one, and its names.
-use Rattle.std.proofs.Common.{◌≡◌, ℕ, zero, suc, ◌⊎◌, inl, inr, Bool, true, Option, Some, None, List, [], ◌∷◌, ◌++◌, map, refl, ap, sym, ◌∙◌, subst, arith, if◌then◌else◌}
+use Rattle.std.proofs.Common.{◌≡◌, ℕ, zero, suc, ◌⊎◌, inl, inr, Bool, true, Option, Some, None, List, [], ◌∷◌}
+use Rattle.std.proofs.Common.{◌++◌, map, refl, ap, sym, ◌∙◌, subst, arith, if◌then◌else◌}
 use Rattle.std.specs.Prelude.{option_and_then}
 use Rattle.std.specs.Str.{bytes_eq}
 use Rattle.std.proofs.lemmas.Bool.{le-leb}
@@ -11,11 +12,13 @@ use Rattle.omega_text.specs.Syntax.{Begins, IsDecidable, IsTextOf, IsUnfinished,
 use Rattle.omega_ltl_formula.specs.Building.{names_of, with_name}
 use Rattle.omega_ltl_formula.specs.Formula.{FormulaTree, binary, constant as constant_tree, names_in, unary}
 use Rattle.omega_ltl_text.specs.Cut.{formula_format}
-use Rattle.omega_ltl_text.specs.Grammar.{RawFormula, SpellsFormula, bare, formula_syntax, level, raw_binary, raw_constant, raw_group, raw_name, raw_symbols, raw_unary}
+use Rattle.omega_ltl_text.specs.Grammar.{RawFormula, SpellsFormula, bare, formula_syntax, level, raw_binary}
+use Rattle.omega_ltl_text.specs.Grammar.{raw_constant, raw_group, raw_name, raw_symbols, raw_unary}
 use Rattle.omega_ltl_text.specs.Symbols.{FormulaSymbol, between, closing, constant, formula_symbol_of}
 use Rattle.omega_ltl_text.specs.declared.kind.FormulaKind.{FormulaKind}
 use Rattle.omega_ltl_text.specs.private.Reader.{name_in, names_after, with_some}
-use Rattle.omega_ltl_text.specs.private.Reading.{Frame, ReadState, closed_by, ended, infixed, initial, opened, prefixed, reading, reduced, run, step, whole}
+use Rattle.omega_ltl_text.specs.private.Reading.{Frame, ReadState, closed_by, ended, infixed, initial, opened}
+use Rattle.omega_ltl_text.specs.private.Reading.{prefixed, reading, reduced, run, step, whole}
 use Rattle.omega_ltl_text.proofs.Absorbing.{IsRun, raw_run}
 use Rattle.omega_ltl_text.proofs.Runs.{run_on, run_push, run_stopped}
 use Rattle.omega_ltl_text.proofs.Unwinding.{run_spells}

@@ -12,4 +12,5 @@ pub mod Texts
 pub mod Quotables
 pub mod Written
 pub mod Taking
+pub mod Measuring
 pub mod Writings

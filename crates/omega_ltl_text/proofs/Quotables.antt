@@ -1,5 +1,7 @@
 -- Names of formulas that texts say: they can stand between quotes.
-use Rattle.std.proofs.Common.{◌≡◌, ℕ, suc, ◌+◌, ◌-◌, ◌<◌, ◌⊎◌, inl, inr, ◌==◌, ◌&&◌, ◌||◌, not, Bool, true, false, Option, Some, None, List, [], ◌∷◌, ◌++◌, length, map, take, drop, get_or, refl, ap, sym, ◌∙◌, subst, arith, codes, length-append, if◌then◌else◌}
+use Rattle.std.proofs.Common.{◌≡◌, ℕ, suc, ◌+◌, ◌-◌, ◌<◌, ◌⊎◌, inl, inr, ◌==◌, ◌&&◌, ◌||◌, not, Bool, true}
+use Rattle.std.proofs.Common.{false, Option, Some, None, List, [], ◌∷◌, ◌++◌, length, map, take, drop, get_or}
+use Rattle.std.proofs.Common.{refl, ap, sym, ◌∙◌, subst, arith, codes, length-append, if◌then◌else◌}
 use Rattle.std.specs.Prelude.{option_map, slice_index}
 use Rattle.std.specs.List.{AllByRecursion, list_all, prefix_len}
 use Rattle.std.specs.Option.{option_or}
@@ -11,17 +13,25 @@ use Rattle.omega_text.specs.Cut.{Cuts}
 use Rattle.omega_text.specs.Forms.{between_quotes}
 use Rattle.omega_text.specs.Lexeme.{Lexeme}
 use Rattle.omega_ltl_formula.specs.Formula.{names_in}
-use Rattle.omega_ltl_formula.specs.declared.operators.BinaryOperator.TheVariants.{And, Iff, Implies, Or, Release, StrongRelease, Until, WeakUntil, Xor}
+use Rattle.omega_ltl_formula.specs.declared.operators.BinaryOperator.TheVariants.{And, Iff, Implies, Or}
+use Rattle.omega_ltl_formula.specs.declared.operators.BinaryOperator.TheVariants.{Release, StrongRelease}
+use Rattle.omega_ltl_formula.specs.declared.operators.BinaryOperator.TheVariants.{Until, WeakUntil, Xor}
 use Rattle.omega_ltl_formula.specs.declared.operators.UnaryOperator.{UnaryOperator}
 use Rattle.omega_ltl_formula.specs.declared.operators.UnaryOperator.TheVariants.{Finally, Globally, Next, Not}
 use Rattle.omega_ltl_text.specs.Cut.{Follows, formula_format}
-use Rattle.omega_ltl_text.specs.Grammar.{RawFormula, bare, raw_binary, raw_constant, raw_group, raw_name, raw_symbols, raw_unary}
+use Rattle.omega_ltl_text.specs.Grammar.{RawFormula, bare, raw_binary, raw_constant, raw_group, raw_name}
+use Rattle.omega_ltl_text.specs.Grammar.{raw_symbols, raw_unary}
 use Rattle.omega_ltl_text.specs.Laws.{NamesAreQuotable}
-use Rattle.omega_ltl_text.specs.Symbols.{FormulaSymbol, before, between, closing, constant, formula_symbol_of, name, opening, symbol}
-use Rattle.omega_ltl_text.specs.Tokens.{Front, front, front_operator, front_quoted, front_sign, front_token, front_word, goes_on, inner_sign, is_either, letter_operator, outer_sign, quoted_count, sign_in, word_kind}
+use Rattle.omega_ltl_text.specs.Symbols.{FormulaSymbol, before, between, closing, constant, formula_symbol_of}
+use Rattle.omega_ltl_text.specs.Symbols.{name, opening, symbol}
+use Rattle.omega_ltl_text.specs.Tokens.{Front, front, front_operator, front_quoted, front_sign, front_token}
+use Rattle.omega_ltl_text.specs.Tokens.{front_word, goes_on, inner_sign, is_either, letter_operator}
+use Rattle.omega_ltl_text.specs.Tokens.{outer_sign, quoted_count, sign_in, word_kind}
 use Rattle.omega_ltl_text.specs.Written.{HasQuotableNames, IsQuotable}
 use Rattle.omega_ltl_text.specs.declared.kind.FormulaKind.{FormulaKind}
-use Rattle.omega_ltl_text.specs.declared.kind.FormulaKind.TheVariants.{Binary, CloseParenthesis, Constant, Name, OpenParenthesis, QuotedName, Unary}
+use Rattle.omega_ltl_text.specs.declared.kind.FormulaKind.TheVariants.{Binary, CloseParenthesis, Constant}
+use Rattle.omega_ltl_text.specs.declared.kind.FormulaKind.TheVariants.{Name, OpenParenthesis, QuotedName}
+use Rattle.omega_ltl_text.specs.declared.kind.FormulaKind.TheVariants.{Unary}
 
 -- a closing quote is found whatever follows it
 pub more_after : (escaped : Bool) (xs rest : List ℕ) → quoted_count escaped (xs ++ 34 ∷ []) ≡ Some (suc (length xs))

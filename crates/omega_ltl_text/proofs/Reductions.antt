@@ -1,5 +1,7 @@
 -- Operators that take their last operands, in a table that grows.
-use Rattle.std.proofs.Common.{◌≡◌, ℕ, ◌+◌, ◌<◌, ◌≤◌, ◌⊎◌, inl, inr, ◌&&◌, ◌||◌, not, Bool, true, false, Option, Some, None, List, [], ◌∷◌, ◌++◌, length, map, reverse, take, ◌-◌, ◌↔◌, refl, ap, ap₂, sym, ◌∙◌, subst, arith, if◌then◌else◌}
+use Rattle.std.proofs.Common.{◌≡◌, ℕ, ◌+◌, ◌<◌, ◌≤◌, ◌⊎◌, inl, inr, ◌&&◌, ◌||◌, not, Bool, true, false}
+use Rattle.std.proofs.Common.{Option, Some, None, List, [], ◌∷◌, ◌++◌, length, map, reverse, take, ◌-◌, ◌↔◌}
+use Rattle.std.proofs.Common.{refl, ap, ap₂, sym, ◌∙◌, subst, arith, if◌then◌else◌}
 use Rattle.std.specs.List.{AllByRecursion, list_any}
 use Rattle.std.specs.Option.{is_some}
 use Rattle.std.specs.Prelude.{IsSome}
@@ -11,7 +13,10 @@ use Rattle.omega_ltl_formula.specs.Table.{FormulaTable, tree_at}
 use Rattle.omega_ltl_text.specs.Grammar.{level}
 use Rattle.omega_ltl_text.specs.declared.pending.Pending.{Pending}
 use Rattle.omega_ltl_text.specs.declared.pending.Pending.TheVariants.{Binary, Parenthesis, Unary}
-use Rattle.omega_ltl_text.specs.private.Reader.{ComesTo, HasFewNodes, IsAmong, IsReading, IsStopped, ReaderState, Reduces, binds, frame_of, frames_of, is_parenthesis, joined, reader_of, size_waiting, sizes_waiting, state_of}
+use Rattle.omega_ltl_text.specs.private.Reader.{ComesTo, HasFewNodes, IsAmong, IsReading, IsStopped}
+use Rattle.omega_ltl_text.specs.private.Reader.{ReaderState, Reduces, binds, frame_of, frames_of}
+use Rattle.omega_ltl_text.specs.private.Reader.{is_parenthesis, joined, reader_of, size_waiting}
+use Rattle.omega_ltl_text.specs.private.Reader.{sizes_waiting, state_of}
 use Rattle.omega_ltl_text.specs.private.Reading.{Frame, ended, infixed, opened, prefixed, reduced, whole}
 use Rattle.omega_ltl_text.proofs.Elements.{all_rest}
 
@@ -113,7 +118,7 @@ not_taken least table frames (Unary op) tree is = absurd (let clash : true ≡ f
 not_taken least table frames (Binary op left) tree is =
     ap (λ (b : Bool). if b then reduced least frames (joined table (Binary op left) tree) else (infixed (tree_at table left) op ∷ frames, tree)) is
 
-pub stopped_there : (least : ℕ) (table : FormulaTable) (pending : List Pending) (tree : FormulaTree) → IsStopped least pending
+pub stopped_there : (least : ℕ) (table : FormulaTable) (pending : List Pending) (tree : FormulaTree) → IsStopped (binds least) pending
     → reduced least (frames_of table pending) tree ≡ (frames_of table pending, tree)
 stopped_there least table pending tree (inl none) = subst (λ (p : List Pending). reduced least (frames_of table p) tree ≡ (frames_of table p, tree)) (sym none) refl
 stopped_there least table pending tree (inr last) =
@@ -123,7 +128,7 @@ stopped_there least table pending tree (inr last) =
 
 -- so it has come to an end
 pub comes_to_end : (least : ℕ) (old : ReaderState) (table : FormulaTable) (pending : List Pending) (number : ℕ) → ComesTo least old table pending number
-    → IsStopped least pending → Reduces least old table pending number
+    → IsStopped (binds least) pending → Reduces least old table pending number
 comes_to_end least old table pending number comes stopped = record {
   reads = comes.reads;
   same = comes.same ∙ ap Some (stopped_there least table pending (tree_at table number) stopped);
@@ -143,12 +148,12 @@ comes_at_first least table pending number reads = record {
 }
 
 -- a formula is whole at the end if no parenthesis is open
-abbrev is_opened : Frame → Bool
+abbrev pub is_opened : Frame → Bool
 is_opened opened = true
 is_opened (prefixed op) = false
 is_opened (infixed left op) = false
 
-whole_unless_open : (frames : List Frame) (tree : FormulaTree) → is_some (whole (reduced 0 frames tree)) ≡ not (list_any is_opened frames)
+pub whole_unless_open : (frames : List Frame) (tree : FormulaTree) → is_some (whole (reduced 0 frames tree)) ≡ not (list_any is_opened frames)
 whole_unless_open [] tree = refl
 whole_unless_open (opened ∷ frames) tree = refl
 whole_unless_open (prefixed op ∷ frames) tree = whole_unless_open frames (unary op tree)
@@ -187,17 +192,17 @@ ended_unless_open table pending (Some number) =
     whole_unless_open (frames_of table pending) (tree_at table number) ∙ ap not (any_opened table pending)
 
 -- what is left without the last
-pub popped_rest : (items lent now rest : List Pending) (last : Pending) (count : ℕ) → lent ≡ rest ++ last ∷ [] → lent ≡ items → length lent ≡ count
+pub popped_rest : {X : Type 0} (items lent now rest : List X) (last : X) (count : ℕ) → lent ≡ rest ++ last ∷ [] → lent ≡ items → length lent ≡ count
     → now ≡ take (count - 1) items → items ≡ now ++ last ∷ []
-popped_rest items lent now rest last count split same long now_is =
+popped_rest {X} items lent now rest last count split same long now_is =
     let size : length lent ≡ length rest + 1 = ap length split ∙ length_push rest last in
     let less : count - 1 ≡ length rest = omega (arith, size, long) in
-    let rest_is : now ≡ rest = now_is ∙ (ap₂ (λ (n : ℕ) (l : List Pending). take n l) less (sym same ∙ split) ∙ take_at rest (last ∷ []) (length rest) refl) in
-    sym same ∙ (split ∙ ap (λ (l : List Pending). l ++ last ∷ []) (sym rest_is))
+    let rest_is : now ≡ rest = now_is ∙ (ap₂ (λ (n : ℕ) (l : List X). take n l) less (sym same ∙ split) ∙ take_at rest (last ∷ []) (length rest) refl) in
+    sym same ∙ (split ∙ ap (λ (l : List X). l ++ last ∷ []) (sym rest_is))
 
 -- nothing was there
-pub empty_popped : (items : List Pending) (count : ℕ) (popped : Option Pending) → count ≡ length items → (IsSome popped) ↔ (0 < count) → is_some popped ≡ false → items ≡ []
-empty_popped items count popped long variant none = nil_from_length items (go (cases_lt 0 count))
+pub empty_popped : {X : Type 0} (items : List X) (count : ℕ) (popped : Option X) → count ≡ length items → (IsSome popped) ↔ (0 < count) → is_some popped ≡ false → items ≡ []
+empty_popped {X} items count popped long variant none = nil_from_length items (go (cases_lt 0 count))
   where
     go : (0 < count) ⊎ (count ≤ 0) → length items ≡ 0
     go (inl more) = absurd (let clash : true ≡ false = sym (variant.1 more) ∙ none in cc)

@@ -1,5 +1,7 @@
 -- What a reader becomes by one symbol.
-use Rattle.std.proofs.Common.{◌≡◌, ℕ, ◌+◌, ◌<◌, ◌≤◌, ◌⊎◌, inl, inr, Bool, true, false, Option, Some, None, List, [], ◌∷◌, ◌++◌, length, Result, Ok, Err, IfErr, IfOk, reverse, refl, ap, ap₂, sym, ◌∙◌, subst, arith, if◌then◌else◌}
+use Rattle.std.proofs.Common.{◌≡◌, ℕ, ◌+◌, ◌<◌, ◌≤◌, ◌⊎◌, inl, inr, Bool, true, false, Option, Some, None}
+use Rattle.std.proofs.Common.{List, [], ◌∷◌, ◌++◌, length, Result, Ok, Err, IfErr, IfOk, reverse, refl, ap}
+use Rattle.std.proofs.Common.{ap₂, sym, ◌∙◌, subst, arith, if◌then◌else◌}
 use Rattle.std.specs.Prelude.{IsSome, option_to_list}
 use Rattle.std.specs.List.{AllByRecursion}
 use Rattle.std.specs.Option.{is_some}
@@ -8,7 +10,8 @@ use Rattle.std.proofs.lemmas.List.{length-map, length-reverse, nil_from_length}
 use Rattle.omega_text.specs.declared.refusal.Refusal.{Refusal}
 use Rattle.omega_text.specs.declared.refusal.Refusal.TheVariants.{Automaton, Game, Io, Memory, Task, Text}
 use Rattle.omega_ltl_formula.specs.Building.{Adds, IsFormulaRefusal, IsLarge}
-use Rattle.omega_ltl_formula.specs.Formula.{FormulaTree, binary, constant as constant_tree, formula_depth, formula_size, unary}
+use Rattle.omega_ltl_formula.specs.Formula.{FormulaTree, binary, constant as constant_tree, formula_depth}
+use Rattle.omega_ltl_formula.specs.Formula.{formula_size, unary}
 use Rattle.omega_ltl_formula.specs.Limits.{most_formula_names, most_formula_nodes}
 use Rattle.omega_ltl_formula.specs.Table.{FormulaTable, NumberedFormula, numbered, tree_at, tree_of}
 use Rattle.omega_ltl_formula.specs.declared.operators.BinaryOperator.{BinaryOperator}
@@ -18,8 +21,11 @@ use Rattle.omega_ltl_text.specs.declared.kind.FormulaKind.{FormulaKind}
 use Rattle.omega_ltl_text.specs.declared.kind.FormulaKind.TheVariants.{Constant}
 use Rattle.omega_ltl_text.specs.declared.pending.Pending.{Pending}
 use Rattle.omega_ltl_text.specs.declared.pending.Pending.TheVariants.{Binary, Parenthesis, Unary}
-use Rattle.omega_ltl_text.specs.private.Reader.{Goes, HasFewNodes, IsAmong, IsOuter, IsRefusedFormula, ReaderState, Reduces, frame_of, frames_of, name_in, outer_symbol, reader_of, sizes_waiting, state_of, with_some}
-use Rattle.omega_ltl_text.specs.private.Reading.{Frame, alone, awaiting, closed_by, ended, infixed, opened, prefixed, reading, reduced, step_wanted, whole}
+use Rattle.omega_ltl_text.specs.private.Reader.{Goes, HasFewNodes, IsAmong, IsOuter, IsRefusedFormula}
+use Rattle.omega_ltl_text.specs.private.Reader.{ReaderState, Reduces, frame_of, frames_of, name_in}
+use Rattle.omega_ltl_text.specs.private.Reader.{outer_symbol, reader_of, sizes_waiting, state_of, with_some}
+use Rattle.omega_ltl_text.specs.private.Reading.{Frame, alone, awaiting, closed_by, ended, infixed, opened}
+use Rattle.omega_ltl_text.specs.private.Reading.{prefixed, reading, reduced, step_wanted, whole}
 use Rattle.omega_ltl_text.proofs.Reductions.{frames_kept, frames_push, sizes_kept, sizes_push}
 
 -- an atom, where an operand is wanted
@@ -116,13 +122,13 @@ operator_goes table new pending rest pushed tree number op old current view comp
     (operator_some table new pending rest tree number op reduces))
 
 -- after all operators there is nothing left but a parenthesis
-abbrev OnTop : List Frame → Type 0
+abbrev pub OnTop : List Frame → Type 0
 OnTop [] = Unit {0}
 OnTop (opened ∷ frames) = Unit {0}
 OnTop (prefixed op ∷ frames) = ⊥
 OnTop (infixed left op ∷ frames) = ⊥
 
-top_left : (frames : List Frame) (tree : FormulaTree) → OnTop (reduced 0 frames tree).0
+pub top_left : (frames : List Frame) (tree : FormulaTree) → OnTop (reduced 0 frames tree).0
 top_left [] tree = tt
 top_left (opened ∷ frames) tree = tt
 top_left (prefixed op ∷ frames) tree = top_left frames (unary op tree)

@@ -1,11 +1,13 @@
 -- Texts of formulas as they are read: one formula or one refusal, and never both.
-use Rattle.std.proofs.Common.{◌≡◌, ℕ, ◌<◌, ◌≤◌, ◌⊎◌, inl, inr, Some, Result, Ok, Err, IfErr, IfOk, List, length, refl, ap, sym, ◌∙◌, subst, arith}
+use Rattle.std.proofs.Common.{◌≡◌, ℕ, ◌<◌, ◌≤◌, ◌⊎◌, inl, inr, Some, Result, Ok, Err, IfErr, IfOk, List}
+use Rattle.std.proofs.Common.{length, refl, ap, sym, ◌∙◌, subst, arith}
 use Rattle.std.specs.Prelude.{IsSome}
 use Rattle.std.proofs.lemmas.Bool.{cases_lt}
 use Rattle.omega_text.specs.Cases.{never, or_memory, or_text}
 use Rattle.omega_text.specs.Cut.{CutsAreOne}
 use Rattle.omega_text.specs.Reading.{IsReadText}
-use Rattle.omega_text.specs.Syntax.{IsDecidable, IsTextFault, IsTextOf, TextFaultsAreOne, TextsAreReadOrFaulty, TextsHaveNoFault, TokensComplete}
+use Rattle.omega_text.specs.Syntax.{IsDecidable, IsTextFault, IsTextOf, TextFaultsAreOne}
+use Rattle.omega_text.specs.Syntax.{TextsAreReadOrFaulty, TextsHaveNoFault, TokensComplete}
 use Rattle.omega_text.specs.declared.refusal.Refusal.{Refusal}
 use Rattle.omega_text.specs.declared.refusal.Refusal.TheVariants.{Automaton, Game, Io, Memory, Task, Text}
 use Rattle.omega_text.specs.declared.refusal.automaton.AutomatonFault.TheVariants.{TooDeep}
@@ -16,11 +18,39 @@ use Rattle.omega_ltl_formula.specs.Limits.{most_formula_depth, most_formula_name
 use Rattle.omega_ltl_formula.specs.Table.{IsFormula, NumberedFormula, tree_of}
 use Rattle.omega_ltl_text.specs.Cut.{formula_format}
 use Rattle.omega_ltl_text.specs.Grammar.{formula_syntax}
-use Rattle.omega_ltl_text.specs.Laws.{FormulaRefusalsAreOne, FormulaTextsAreReadOrRefused, FormulasAreNotRefused, FormulasOfTextsAreOne}
-use Rattle.omega_ltl_text.specs.Text.{IsFormulaText, IsFormulaTextRefusal, IsReadFormulaRefusal, SaysFormula, SaysTooDeep, SaysTooLarge}
-use Rattle.omega_ltl_text.specs.private.Reader.{HasBecome, HasFewNodes, IsRefusedFormula, ReaderState, state_of}
-use Rattle.omega_ltl_text.specs.private.Reading.{ended}
+use Rattle.omega_ltl_text.specs.Laws.{FormulaRefusalsAreOne, FormulaTextsAreReadOrRefused}
+use Rattle.omega_ltl_text.specs.Laws.{FormulasAreNotRefused, FormulasOfTextsAreOne}
+use Rattle.omega_ltl_text.specs.Text.{IsFormulaText, IsFormulaTextRefusal, IsReadFormulaRefusal, SaysFormula}
+use Rattle.omega_ltl_text.specs.Text.{SaysTooDeep, SaysTooLarge}
+use Rattle.omega_ltl_text.specs.declared.measurer.FormulaMeasurer.{FormulaMeasurer}
+use Rattle.omega_ltl_text.specs.private.Measuring.{HasMeasured, Measures}
+use Rattle.omega_ltl_text.specs.private.Reader.{HasBecome, HasFewNodes, IsRefusedFormula, ReaderState}
+use Rattle.omega_ltl_text.specs.private.Reader.{state_of}
+use Rattle.omega_ltl_text.specs.private.Reading.{ReadState, ended}
 use Rattle.omega_ltl_text.proofs.Deciding.{decided, spelled_names, symbols_of, text_ends, texts_one}
+
+-- a formula that a text says is refused
+refused_as : (source : List ℕ) (tree : FormulaTree) → SaysFormula source tree → (names : ℕ) → names ≡ length (names_of tree)
+    → (refusal : Refusal) → IsRefusedFormula tree names refusal → IsReadFormulaRefusal source refusal
+refused_as source tree says names named (Automaton fault) why = (why.0, record { tree = tree; says = says; deep = why.1 })
+refused_as source tree says names named (Task fault) why = (
+  why.0,
+  record {
+    tree = tree;
+    says = says;
+    shallow = why.1;
+    large = go why.2;
+  },
+)
+  where
+    go : (most_formula_nodes < formula_size tree) ⊎ (most_formula_names < names)
+        → (most_formula_nodes < formula_size tree) ⊎ (most_formula_names < length (names_of tree))
+    go (inl large) = inl large
+    go (inr many) = inr (omega (arith, named, many))
+refused_as source tree says names named (Text fault) why = absurd why
+refused_as source tree says names named (Game fault) why = absurd why
+refused_as source tree says names named Memory why = why
+refused_as source tree says names named Io why = absurd why
 
 -- what a new reader became
 module _ (source : List ℕ) (start reader : ReaderState)
@@ -66,25 +96,8 @@ module _ (source : List ℕ) (start reader : ReaderState)
   -- or why none was made
   refused : (tree : FormulaTree) → ended (state_of reader) ≡ Some tree → (refusal : Refusal) → IsRefusedFormula tree (length reader.table.names) refusal
       → IsReadFormulaRefusal source refusal
-  refused tree ends (Automaton fault) why = (why.0, record { tree = tree; says = read_says tree ends; deep = why.1 })
-  refused tree ends (Task fault) why = (
-    why.0,
-    record {
-      tree = tree;
-      says = read_says tree ends;
-      shallow = why.1;
-      large = go why.2;
-    },
-  )
-    where
-      go : (most_formula_nodes < formula_size tree) ⊎ (most_formula_names < length reader.table.names)
-          → (most_formula_nodes < formula_size tree) ⊎ (most_formula_names < length (names_of tree))
-      go (inl large) = inl large
-      go (inr many) = let long = ap length (read_names tree ends) in inr (omega (arith, long, many))
-  refused tree ends (Text fault) why = absurd why
-  refused tree ends (Game fault) why = absurd why
-  refused tree ends Memory why = why
-  refused tree ends Io why = absurd why
+  refused tree ends refusal why =
+      refused_as source tree (read_says tree ends) (length reader.table.names) (ap length (read_names tree ends)) refusal why
 
   pub formula_refused : (refusal : Refusal) → ((tree : FormulaTree) → ended (state_of reader) ≡ Some tree → IsRefusedFormula tree (length reader.table.names) refusal)
       → IsReadFormulaRefusal source refusal
@@ -106,6 +119,21 @@ module _ (source : List ℕ) (start reader : ReaderState)
       → IfErr result (IsReadFormulaRefusal source)
   formula_refused_if (Ok formula) why = tt
   formula_refused_if (Err refusal) why = formula_refused refusal why
+
+-- a formula that was measured and is past a limit
+pub measure_refused_if : {X : Type 0} (source : List ℕ) (start measurer : FormulaMeasurer) (result : Result X Refusal)
+    → IsReadText formula_format (λ lexemes. HasMeasured start lexemes measurer) (TokensComplete formula_syntax) source
+    → IfErr result (λ refusal. (state : ReadState) (tree : FormulaTree) (names : ℕ) → Measures measurer state → ended state ≡ Some tree
+    → IsRefusedFormula tree names refusal) → IfErr result (IsReadFormulaRefusal source)
+measure_refused_if source start measurer (Ok done) read why = tt
+measure_refused_if source start measurer (Err refusal) read why =
+    let has = read.all_taken in
+    let tree = read.complete.0 in
+    refused_as source tree
+    (record { short = read.short; writes = record { lexemes = read.lexemes; cut = read.cut; text = read.complete.1 } })
+    (length (names_of tree)) refl refusal
+    (why has.state tree (length (names_of tree)) has.measures
+    (text_ends (symbols_of read.lexemes) has.state tree has.runs read.complete.1))
 
 -- the refusal of a text that was not read
 pub formula_unread : (source : List ℕ) (refusal : Refusal) → or_text (IsTextFault formula_syntax source) (or_memory never) refusal → IsReadFormulaRefusal source refusal

@@ -1,5 +1,7 @@
 -- Tokens at the front of bytes: they have some bytes, which are there, and the first is not white.
-use Rattle.std.proofs.Common.{◌≡◌, ℕ, suc, ◌+◌, ◌<◌, ◌≤◌, ◌⊎◌, inl, inr, ◌==◌, ◌&&◌, ◌||◌, not, Bool, true, false, Option, Some, None, List, [], ◌∷◌, length, take, refl, ap, sym, ◌∙◌, subst, arith, codes, length-take, if◌then◌else◌}
+use Rattle.std.proofs.Common.{◌≡◌, ℕ, suc, ◌+◌, ◌<◌, ◌≤◌, ◌⊎◌, inl, inr, ◌==◌, ◌&&◌, ◌||◌, not, Bool, true}
+use Rattle.std.proofs.Common.{false, Option, Some, None, List, [], ◌∷◌, length, take, refl, ap, sym, ◌∙◌}
+use Rattle.std.proofs.Common.{subst, arith, codes, length-take, if◌then◌else◌}
 use Rattle.std.specs.Prelude.{option_map, slice_index}
 use Rattle.std.specs.List.{prefix_len}
 use Rattle.std.specs.Option.{option_or}
@@ -10,7 +12,9 @@ use Rattle.std.proofs.lemmas.List.Sums.{prefix_len-le-length}
 use Rattle.std.proofs.lemmas.Slice.Eq.{bytes_eq-Decides}
 use Rattle.omega_text.specs.Bytes.{is_digit, is_letter, is_white}
 use Rattle.omega_ltl_formula.specs.declared.operators.UnaryOperator.{UnaryOperator}
-use Rattle.omega_ltl_text.specs.Tokens.{Front, front, front_operator, front_quoted, front_sign, front_token, front_word, goes_on, inner_sign, letter_operator, outer_sign, quoted_count, sign_in}
+use Rattle.omega_ltl_text.specs.Tokens.{Front, front, front_operator, front_quoted, front_sign, front_token}
+use Rattle.omega_ltl_text.specs.Tokens.{front_word, goes_on, inner_sign, letter_operator, outer_sign}
+use Rattle.omega_ltl_text.specs.Tokens.{quoted_count, sign_in}
 use Rattle.omega_ltl_text.specs.declared.kind.FormulaKind.{FormulaKind}
 use Rattle.omega_ltl_text.specs.declared.kind.FormulaKind.TheVariants.{Constant, QuotedName, Unary}
 

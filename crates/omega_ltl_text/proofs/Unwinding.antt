@@ -1,13 +1,19 @@
 -- Symbols that are run are those of what waits and of a formula that is written so; at an end they are a formula.
-use Rattle.std.proofs.Common.{◌≡◌, ℕ, ◌≤◌, Bool, true, false, Option, Some, None, List, [], ◌∷◌, ◌++◌, refl, ap, ap₂, sym, ◌∙◌, subst, arith, append_assoc, append-nil, nat_le, if◌then◌else◌}
+use Rattle.std.proofs.Common.{◌≡◌, ℕ, ◌≤◌, Bool, true, false, Option, Some, None, List, [], ◌∷◌, ◌++◌, refl}
+use Rattle.std.proofs.Common.{ap, ap₂, sym, ◌∙◌, subst, arith, append_assoc, append-nil, nat_le}
+use Rattle.std.proofs.Common.{if◌then◌else◌}
 use Rattle.std.specs.Prelude.{option_and_then}
 use Rattle.std.proofs.lemmas.Bool.{leb-false, leb-true}
 use Rattle.omega_ltl_formula.specs.Formula.{FormulaTree, binary, constant as constant_tree, name as name_tree}
 use Rattle.omega_ltl_formula.specs.declared.operators.BinaryOperator.{BinaryOperator}
 use Rattle.omega_ltl_formula.specs.declared.operators.UnaryOperator.{UnaryOperator}
-use Rattle.omega_ltl_text.specs.Grammar.{IsGrouped, RawFormula, SpellsFormula, bare, least_left, level, raw_binary, raw_constant, raw_group, raw_name, raw_symbols, raw_unary, tightness}
+use Rattle.omega_ltl_text.specs.Grammar.{IsGrouped, RawFormula, SpellsFormula, bare, least_left, level}
+use Rattle.omega_ltl_text.specs.Grammar.{raw_binary, raw_constant, raw_group, raw_name, raw_symbols}
+use Rattle.omega_ltl_text.specs.Grammar.{raw_unary, tightness}
 use Rattle.omega_ltl_text.specs.Symbols.{FormulaSymbol, before, between, closing, constant, name, opening}
-use Rattle.omega_ltl_text.specs.private.Reading.{Frame, ReadState, alone, awaiting, closed_by, ended, infixed, initial, opened, prefixed, reading, reduced, run, step, step_after}
+use Rattle.omega_ltl_text.specs.private.Reading.{Frame, ReadState, alone, awaiting, closed_by, ended, infixed}
+use Rattle.omega_ltl_text.specs.private.Reading.{initial, opened, prefixed, reading, reduced, run, step}
+use Rattle.omega_ltl_text.specs.private.Reading.{step_after}
 use Rattle.omega_ltl_text.proofs.Absorbing.{Admits, levels, takes_or_stays}
 use Rattle.omega_ltl_text.proofs.Runs.{run_step}
 

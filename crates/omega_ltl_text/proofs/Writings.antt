@@ -1,17 +1,21 @@
 -- The formulas of nodes, as they are written piece by piece.
-use Rattle.std.proofs.Common.{◌≡◌, ℕ, ◌+◌, ◌<◌, Bool, true, false, List, [], ◌∷◌, ◌++◌, length, refl, ap, ap₂, sym, ◌∙◌, subst, arith, append_assoc, append-nil, codes}
+use Rattle.std.proofs.Common.{◌≡◌, ℕ, ◌+◌, ◌<◌, Bool, true, false, List, [], ◌∷◌, ◌++◌, length, refl, ap, ap₂}
+use Rattle.std.proofs.Common.{sym, ◌∙◌, subst, arith, append_assoc, append-nil, codes}
 use Rattle.std.specs.List.{AllByRecursion}
 use Rattle.omega_ltl_formula.specs.Formula.{FormulaTree, binary, formula_size, unary}
-use Rattle.omega_ltl_formula.specs.Table.{FormulaTable, IsFormula, IsPlaced, NodesAreOverNodes, NumberedFormula, node_at, tree_at, tree_of, tree_over}
+use Rattle.omega_ltl_formula.specs.Table.{FormulaTable, IsFormula, IsPlaced, NodesAreOverNodes}
+use Rattle.omega_ltl_formula.specs.Table.{NumberedFormula, node_at, tree_at, tree_of, tree_over}
 use Rattle.omega_ltl_formula.specs.declared.node.FormulaNode.{FormulaNode}
 use Rattle.omega_ltl_formula.specs.declared.node.FormulaNode.TheVariants.{Binary, Constant, Name, Unary}
 use Rattle.omega_ltl_formula.specs.declared.operators.BinaryOperator.{BinaryOperator}
 use Rattle.omega_ltl_formula.specs.declared.operators.UnaryOperator.{UnaryOperator}
-use Rattle.omega_ltl_text.specs.Written.{binary_text, enclosed, formula_text, is_binary, space_after, unary_text}
+use Rattle.omega_ltl_text.specs.Written.{binary_text, enclosed, formula_text, is_binary, space_after}
+use Rattle.omega_ltl_text.specs.Written.{unary_text}
 use Rattle.omega_ltl_text.specs.declared.unwritten.Unwritten.{Unwritten}
 use Rattle.omega_ltl_text.specs.declared.unwritten.Unwritten.TheVariants.{Between, Closing, Node, Operand}
 use Rattle.omega_ltl_text.specs.private.Nodes.{has_two}
-use Rattle.omega_ltl_text.specs.private.Unwritten.{IsNodeAmong, Writes, unwritten_text, unwritten_texts, work, works}
+use Rattle.omega_ltl_text.specs.private.Unwritten.{IsNodeAmong, Writes, unwritten_text, unwritten_texts, work}
+use Rattle.omega_ltl_text.specs.private.Unwritten.{works}
 use Rattle.omega_ltl_text.proofs.Elements.{all_push}
 
 -- what was put last comes first

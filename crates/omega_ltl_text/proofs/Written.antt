@@ -1,5 +1,8 @@
 -- Canonical texts are read: each of their tokens is cut, and they are the symbols of the formula.
-use Rattle.std.proofs.Common.{◌≡◌, ℕ, zero, suc, ◌+◌, ◌-◌, ◌<◌, ◌≤◌, ◌⊎◌, inl, inr, ◌==◌, ◌&&◌, not, Bool, true, false, Option, Some, None, List, [], ◌∷◌, ◌++◌, length, map, take, drop, get_or, refl, ap, ap₂, sym, ◌∙◌, subst, arith, codes, append_assoc, append-nil, length-append, length-drop, if◌then◌else◌}
+use Rattle.std.proofs.Common.{◌≡◌, ℕ, zero, suc, ◌+◌, ◌-◌, ◌<◌, ◌≤◌, ◌⊎◌, inl, inr, ◌==◌, ◌&&◌, not, Bool}
+use Rattle.std.proofs.Common.{true, false, Option, Some, None, List, [], ◌∷◌, ◌++◌, length, map, take, drop}
+use Rattle.std.proofs.Common.{get_or, refl, ap, ap₂, sym, ◌∙◌, subst, arith, codes, append_assoc, append-nil}
+use Rattle.std.proofs.Common.{length-append, length-drop, if◌then◌else◌}
 use Rattle.std.specs.Prelude.{option_map, slice_index}
 use Rattle.std.specs.List.{AllByRecursion, list_all, prefix_len}
 use Rattle.std.specs.Option.{is_some, option_or}
@@ -12,19 +15,29 @@ use Rattle.omega_text.specs.Forms.{between_quotes}
 use Rattle.omega_text.specs.Lexeme.{Lexeme, lexeme_at}
 use Rattle.omega_text.specs.pg.Cut.{IsGap}
 use Rattle.omega_text.proofs.pg_texts.Gaps.{no_gap}
-use Rattle.omega_ltl_formula.specs.Formula.{FormulaTree, binary, constant as constant_tree, name as name_tree, names_in, unary}
+use Rattle.omega_ltl_formula.specs.Formula.{FormulaTree, binary, constant as constant_tree, name as name_tree}
+use Rattle.omega_ltl_formula.specs.Formula.{names_in, unary}
 use Rattle.omega_ltl_formula.specs.declared.operators.BinaryOperator.{BinaryOperator}
-use Rattle.omega_ltl_formula.specs.declared.operators.BinaryOperator.TheVariants.{And, Iff, Implies, Or, Release, StrongRelease, Until, WeakUntil, Xor}
+use Rattle.omega_ltl_formula.specs.declared.operators.BinaryOperator.TheVariants.{And, Iff, Implies, Or}
+use Rattle.omega_ltl_formula.specs.declared.operators.BinaryOperator.TheVariants.{Release, StrongRelease}
+use Rattle.omega_ltl_formula.specs.declared.operators.BinaryOperator.TheVariants.{Until, WeakUntil, Xor}
 use Rattle.omega_ltl_formula.specs.declared.operators.UnaryOperator.{UnaryOperator}
 use Rattle.omega_ltl_formula.specs.declared.operators.UnaryOperator.TheVariants.{Finally, Globally, Next, Not}
 use Rattle.omega_ltl_text.specs.Cut.{formula_format}
-use Rattle.omega_ltl_text.specs.Grammar.{IsGrouped, RawFormula, bare, raw_binary, raw_constant, raw_group, raw_name, raw_symbols, raw_unary, tightness}
+use Rattle.omega_ltl_text.specs.Grammar.{IsGrouped, RawFormula, bare, raw_binary, raw_constant, raw_group}
+use Rattle.omega_ltl_text.specs.Grammar.{raw_name, raw_symbols, raw_unary, tightness}
 use Rattle.omega_ltl_text.specs.Laws.{WrittenFormulasAreRead}
-use Rattle.omega_ltl_text.specs.Symbols.{FormulaSymbol, before, between, closing, constant, formula_symbol_of, name as name_symbol, opening, symbol}
-use Rattle.omega_ltl_text.specs.Tokens.{Front, front, front_operator, front_quoted, front_sign, front_token, front_word, goes_on, letter_operator, quoted_count, word_kind}
-use Rattle.omega_ltl_text.specs.Written.{HasQuotableNames, IsQuotable, begins_with_operator, binary_text, enclosed, formula_text, is_binary, is_name, name_text, space_after, stands_bare, unary_text}
+use Rattle.omega_ltl_text.specs.Symbols.{FormulaSymbol, before, between, closing, constant, formula_symbol_of}
+use Rattle.omega_ltl_text.specs.Symbols.{name as name_symbol, opening, symbol}
+use Rattle.omega_ltl_text.specs.Tokens.{Front, front, front_operator, front_quoted, front_sign, front_token}
+use Rattle.omega_ltl_text.specs.Tokens.{front_word, goes_on, letter_operator, quoted_count, word_kind}
+use Rattle.omega_ltl_text.specs.Written.{HasQuotableNames, IsQuotable, begins_with_operator, binary_text}
+use Rattle.omega_ltl_text.specs.Written.{enclosed, formula_text, is_binary, is_name, name_text, space_after}
+use Rattle.omega_ltl_text.specs.Written.{stands_bare, unary_text}
 use Rattle.omega_ltl_text.specs.declared.kind.FormulaKind.{FormulaKind}
-use Rattle.omega_ltl_text.specs.declared.kind.FormulaKind.TheVariants.{Binary, CloseParenthesis, Constant, Name, OpenParenthesis, QuotedName, Unary}
+use Rattle.omega_ltl_text.specs.declared.kind.FormulaKind.TheVariants.{Binary, CloseParenthesis, Constant}
+use Rattle.omega_ltl_text.specs.declared.kind.FormulaKind.TheVariants.{Name, OpenParenthesis, QuotedName}
+use Rattle.omega_ltl_text.specs.declared.kind.FormulaKind.TheVariants.{Unary}
 use Rattle.omega_ltl_text.proofs.Absorbing.{levels}
 use Rattle.omega_ltl_text.proofs.Quotables.{more_after}
 

@@ -1,10 +1,13 @@
 -- The grammar of formulas: how tight operators bind, and to which side (Spot's tl.pdf, precedence and associativity).
 use Rattle.std.specs.Prelude.{◌≡◌, ℕ, ◌+◌, ◌≤◌, Bool, false, true, if◌then◌else◌, List, [], ◌∷◌, ◌++◌}
 use Rattle.omega_text.specs.Syntax.{Syntax}
-use Rattle.omega_ltl_formula.specs.Formula.{FormulaTree, binary, constant as constant_tree, name as name_tree, unary}
+use Rattle.omega_ltl_formula.specs.Formula.{FormulaTree, binary, constant as constant_tree, name as name_tree}
+use Rattle.omega_ltl_formula.specs.Formula.{unary}
 use Rattle.omega_ltl_formula.specs.declared.operators.BinaryOperator.{BinaryOperator}
-use Rattle.omega_ltl_formula.specs.declared.operators.BinaryOperator.TheVariants.{And, Iff, Implies, Or, Release}
-use Rattle.omega_ltl_formula.specs.declared.operators.BinaryOperator.TheVariants.{StrongRelease, Until, WeakUntil, Xor}
+use Rattle.omega_ltl_formula.specs.declared.operators.BinaryOperator.TheVariants.{And, Iff, Implies, Or}
+use Rattle.omega_ltl_formula.specs.declared.operators.BinaryOperator.TheVariants.{Release}
+use Rattle.omega_ltl_formula.specs.declared.operators.BinaryOperator.TheVariants.{StrongRelease, Until}
+use Rattle.omega_ltl_formula.specs.declared.operators.BinaryOperator.TheVariants.{WeakUntil, Xor}
 use Rattle.omega_ltl_formula.specs.declared.operators.UnaryOperator.{UnaryOperator}
 use Rattle.omega_ltl_text.specs.Cut.{formula_format}
 use Rattle.omega_ltl_text.specs.Symbols.{FormulaSymbol, before, between, closing, constant}

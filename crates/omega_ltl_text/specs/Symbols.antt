@@ -5,7 +5,8 @@ use Rattle.omega_text.specs.Lexeme.{Lexeme}
 use Rattle.omega_ltl_formula.specs.declared.operators.BinaryOperator.{BinaryOperator}
 use Rattle.omega_ltl_formula.specs.declared.operators.UnaryOperator.{UnaryOperator}
 use Rattle.omega_ltl_text.specs.declared.kind.FormulaKind.{FormulaKind}
-use Rattle.omega_ltl_text.specs.declared.kind.FormulaKind.TheVariants.{Binary, CloseParenthesis, Constant, Name}
+use Rattle.omega_ltl_text.specs.declared.kind.FormulaKind.TheVariants.{Binary, CloseParenthesis, Constant}
+use Rattle.omega_ltl_text.specs.declared.kind.FormulaKind.TheVariants.{Name}
 use Rattle.omega_ltl_text.specs.declared.kind.FormulaKind.TheVariants.{OpenParenthesis, QuotedName, Unary}
 
 -- an atom, an operator or a parenthesis

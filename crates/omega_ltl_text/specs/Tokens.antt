@@ -1,16 +1,20 @@
 -- The tokens of formulas, as Spot spells them (tl.pdf, syntax). White space stands between them where it is needed.
 use Rattle.std.specs.Prelude.{ℕ, suc, ◌==◌, ◌&&◌, ◌||◌, Bool, false, true, not, if◌then◌else◌}
-use Rattle.std.specs.Prelude.{List, [], ◌∷◌, Option, None, Some, codes, drop, length, option_map, slice_index, take}
+use Rattle.std.specs.Prelude.{List, [], ◌∷◌, Option, None, Some, codes, drop, length, option_map, slice_index}
+use Rattle.std.specs.Prelude.{take}
 use Rattle.std.specs.Option.{option_or}
 use Rattle.std.specs.List.{prefix_len}
 use Rattle.std.specs.Str.{bytes_eq, str_eq_ignore_ascii_case}
 use Rattle.omega_text.specs.Bytes.{is_digit, is_letter}
-use Rattle.omega_ltl_formula.specs.declared.operators.BinaryOperator.TheVariants.{And, Iff, Implies, Or, Release}
-use Rattle.omega_ltl_formula.specs.declared.operators.BinaryOperator.TheVariants.{StrongRelease, Until, WeakUntil, Xor}
+use Rattle.omega_ltl_formula.specs.declared.operators.BinaryOperator.TheVariants.{And, Iff, Implies, Or}
+use Rattle.omega_ltl_formula.specs.declared.operators.BinaryOperator.TheVariants.{Release}
+use Rattle.omega_ltl_formula.specs.declared.operators.BinaryOperator.TheVariants.{StrongRelease, Until}
+use Rattle.omega_ltl_formula.specs.declared.operators.BinaryOperator.TheVariants.{WeakUntil, Xor}
 use Rattle.omega_ltl_formula.specs.declared.operators.UnaryOperator.{UnaryOperator}
 use Rattle.omega_ltl_formula.specs.declared.operators.UnaryOperator.TheVariants.{Finally, Globally, Next, Not}
 use Rattle.omega_ltl_text.specs.declared.kind.FormulaKind.{FormulaKind}
-use Rattle.omega_ltl_text.specs.declared.kind.FormulaKind.TheVariants.{Binary, CloseParenthesis, Constant, Name}
+use Rattle.omega_ltl_text.specs.declared.kind.FormulaKind.TheVariants.{Binary, CloseParenthesis, Constant}
+use Rattle.omega_ltl_text.specs.declared.kind.FormulaKind.TheVariants.{Name}
 use Rattle.omega_ltl_text.specs.declared.kind.FormulaKind.TheVariants.{OpenParenthesis, QuotedName, Unary}
 
 -- a token at the front of bytes: its kind, and how many bytes it has

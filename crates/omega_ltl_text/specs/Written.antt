@@ -6,8 +6,10 @@ use Rattle.std.specs.Option.{is_some}
 use Rattle.omega_text.specs.Bytes.{is_digit, is_letter}
 use Rattle.omega_ltl_formula.specs.Formula.{FormulaTree, binary, constant, name, names_in, unary}
 use Rattle.omega_ltl_formula.specs.declared.operators.BinaryOperator.{BinaryOperator}
-use Rattle.omega_ltl_formula.specs.declared.operators.BinaryOperator.TheVariants.{And, Iff, Implies, Or, Release}
-use Rattle.omega_ltl_formula.specs.declared.operators.BinaryOperator.TheVariants.{StrongRelease, Until, WeakUntil, Xor}
+use Rattle.omega_ltl_formula.specs.declared.operators.BinaryOperator.TheVariants.{And, Iff, Implies, Or}
+use Rattle.omega_ltl_formula.specs.declared.operators.BinaryOperator.TheVariants.{Release}
+use Rattle.omega_ltl_formula.specs.declared.operators.BinaryOperator.TheVariants.{StrongRelease, Until}
+use Rattle.omega_ltl_formula.specs.declared.operators.BinaryOperator.TheVariants.{WeakUntil, Xor}
 use Rattle.omega_ltl_formula.specs.declared.operators.UnaryOperator.{UnaryOperator}
 use Rattle.omega_ltl_formula.specs.declared.operators.UnaryOperator.TheVariants.{Finally, Globally, Next, Not}
 use Rattle.omega_ltl_text.specs.Tokens.{goes_on, letter_operator, quoted_count, word_kind}

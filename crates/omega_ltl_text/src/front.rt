@@ -1,7 +1,8 @@
 //! The token at the front of bytes.
 
 ghost use Rattle.std.specs.Prelude.{◌≡◌, ◌==◌, ◌&&◌, ◌+◌, ◌^◌, ◌<◌, false, not, option_map, IfSome};
-ghost use Rattle.omega_ltl_text.specs.Tokens.{front_operator, front_quoted, front_sign, front_token, front_word};
+ghost use Rattle.omega_ltl_text.specs.Tokens.{front_operator, front_quoted, front_sign, front_token};
+ghost use Rattle.omega_ltl_text.specs.Tokens.{front_word};
 ghost use Rattle.omega_ltl_text.specs.Tokens.{quoted_count, sign_in};
 ghost use Rattle.omega_ltl_text.specs.private.Fronts.{front_of};
 

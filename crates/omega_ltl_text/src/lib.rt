@@ -6,11 +6,13 @@
 #![tactic(auto)]
 
 mod bytes;
+mod depths;
 mod format;
 mod front;
 mod kind;
 pub mod laws;
 mod levels;
+mod measurer;
 mod names;
 mod pending;
 mod reader;
@@ -20,6 +22,7 @@ mod spelling;
 mod syntax;
 mod token;
 mod unwritten;
+mod waiting;
 mod writing;
 
 pub use kind::FormulaKind;

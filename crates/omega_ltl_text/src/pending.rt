@@ -1,6 +1,6 @@
 use omega_ltl_formula::{BinaryOperator, UnaryOperator};
 
-/// What waits for an operand while a formula is read.
+/// What waits for an operand while a formula is read. It takes 8 bytes.
 #[derive(Clone, Copy, Debug, PartialEq, Eq)]
 pub(crate) enum Pending {
     /// An open parenthesis.
@@ -8,5 +8,5 @@ pub(crate) enum Pending {
     /// An operator of one operand.
     Unary(UnaryOperator),
     /// An operator of two operands, and the number of the left one.
-    Binary(BinaryOperator, usize),
+    Binary(BinaryOperator, u32),
 }

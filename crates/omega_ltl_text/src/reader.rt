@@ -1,6 +1,7 @@
 //! A reader of formulas: an operator-precedence parser that keeps all that is pending in a list.
 
-ghost use Rattle.std.specs.Prelude.{◌≡◌, ◌↔◌, ◌≤◌, ◌&&◌, not, [], None, Some, IfErr, IfOk, IsOkUnless, IsSome, IsTrue};
+ghost use Rattle.std.specs.Prelude.{◌≡◌, ◌↔◌, ◌≤◌, ◌&&◌, not, [], None, Some, IfErr, IfOk, IsOkUnless};
+ghost use Rattle.std.specs.Prelude.{IsSome, IsTrue};
 ghost use Rattle.std.specs.Prelude.{length};
 ghost use Rattle.std.specs.List.{list_any};
 ghost use Rattle.std.specs.Option.{is_some};
@@ -145,7 +146,8 @@ impl FormulaReader {
         ensures memory { IsOkUnless result Refusal.Memory }
     {
         let least = least_left(operator);
-        let left = reduce(&mut self.table, &mut self.pending, least, tree)?;
+        let number = reduce(&mut self.table, &mut self.pending, least, tree)?;
+        let left = short_number(number)?;
         self.pending.push(Pending::Binary(operator, left))?;
         self.current = None;
         Ok(true)
@@ -160,6 +162,17 @@ impl FormulaReader {
         let inside = reduce(&mut self.table, &mut self.pending, 0, tree)?;
         self.current = Some(inside);
         Ok(self.pending.pop().is_some())
+    }
+}
+
+/// Returns `number` in four bytes. No text is long enough for more nodes than that.
+fn short_number(number: usize) -> Result<u32, Refusal>
+    ensures number { IfOk result (λ short. short ≡ number) }
+    ensures memory { IsOkUnless result Refusal.Memory }
+{
+    match u32::try_from(number) {
+        Ok(short) => Ok(short),
+        Err(_) => Err(Refusal::Memory),
     }
 }
 

@@ -7,6 +7,7 @@ ghost use Rattle.omega_ltl_formula.specs.Table.{tree_of};
 ghost use Rattle.omega_ltl_text.specs.Text.{IsFormulaText, IsReadFormulaRefusal};
 
 use crate::kind::FormulaKind;
+use crate::measurer::FormulaMeasurer;
 use crate::reader::FormulaReader;
 use omega_ltl_formula::Formula;
 use omega_text::{Refusal, read_text};
@@ -23,7 +24,8 @@ use std::alloc::Global;
 /// operator wherever a name could begin, so `GFa` is `G F a`. The names are numbered in the order of their first
 /// occurrences. The formula has at most as many nodes as atoms and operators, since equal parts become one.
 ///
-/// The bytes are read once, from the left, in linear time and without recursion.
+/// The bytes are read twice, from the left, in linear time and without recursion. The first time measures the formula,
+/// so that no node of a formula past a limit of depth or size is made.
 ///
 /// Fails with [TextFault::TooLong] above `MOST_TEXT` bytes. Otherwise fails with [TextFault::Lex] at the least place at
 /// which no token begins, or else with [TextFault::Syntax] at the first token with which no formula goes on, or at the
@@ -35,6 +37,15 @@ pub fn read_formula(alloc: Global, bytes: &[u8]) -> Result<Formula, Refusal>
     ensures nodes { IfOk result (λ formula. length formula.table.nodes ≤ formula_size (tree_of formula)) }
     ensures refused { IfErr result (IsReadFormulaRefusal bytes.now) }
 {
+    check_measure(alloc, bytes)?;
     let reader = read_text::<FormulaKind, FormulaReader>(FormulaReader::new(alloc), bytes)?;
     reader.finish(alloc)
+}
+
+/// Refuses a text that says no formula, or one past the limit of depth or else past that of size.
+fn check_measure(alloc: Global, bytes: &[u8]) -> Result<(), Refusal>
+    ensures { IfErr result (IsReadFormulaRefusal bytes.now) }
+{
+    let measurer = read_text::<FormulaKind, FormulaMeasurer>(FormulaMeasurer::new(alloc), bytes)?;
+    measurer.check_limits()
 }

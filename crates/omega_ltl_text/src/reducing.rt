@@ -4,7 +4,8 @@ ghost use Rattle.std.specs.Prelude.{◌≡◌, ◌<◌, ◌≤◌, true, Some, I
 ghost use Rattle.std.specs.List.{AllByRecursion};
 ghost use Rattle.omega_ltl_formula.specs.Building.{Adds};
 ghost use Rattle.omega_ltl_formula.specs.Table.{tree_at};
-ghost use Rattle.omega_ltl_text.specs.private.Reader.{EndsWith, IsAmong, IsReading, IsStopped, Reduces, binds};
+ghost use Rattle.omega_ltl_text.specs.private.Reader.{EndsWith, IsAmong, IsReading, IsStopped, Reduces};
+ghost use Rattle.omega_ltl_text.specs.private.Reader.{binds};
 ghost use Rattle.omega_ltl_text.specs.private.Reader.{joined, reader_of};
 
 use crate::levels::level;
@@ -40,7 +41,7 @@ pub(crate) fn reduce(
 fn last_binding(pending: &[Pending], least: usize) -> Option<Pending>
     ensures last { IfSome result (EndsWith pending.now) }
     ensures binds { IfSome result (λ last. binds least last ≡ true) }
-    ensures stopped { IfNone result (IsStopped least pending.now) }
+    ensures stopped { IfNone result (IsStopped (binds least) pending.now) }
 {
     let last = *pending.last()?;
     let binds = match last {
@@ -64,6 +65,6 @@ fn join(table: &mut FormulaBuilder, last: Pending, tree: usize) -> Result<usize,
     match last {
         Pending::Parenthesis => Ok(tree),
         Pending::Unary(operator) => table.unary(operator, tree),
-        Pending::Binary(operator, left) => table.binary(operator, left, tree),
+        Pending::Binary(operator, left) => table.binary(operator, left as usize, tree),
     }
 }

@@ -131,10 +131,10 @@ pub record HasBecome (start : ReaderState) (lexemes : List (Lexeme FormulaKind))
 abbrev pub EndsWith : {X : Type 0} → List X → X → Type 0
 EndsWith {X} items last = (rest : List X) × (items ≡ rest ++ last ∷ [])
 
--- nothing is pending, or the last does not bind so tight
-abbrev pub IsStopped : ℕ → List Pending → Type 0
-IsStopped least pending = (pending ≡ [])
-    ⊎ ((last : Pending) × EndsWith pending last × (binds least last ≡ false))
+-- nothing is pending, or the last does not bind
+abbrev pub IsStopped : {X : Type 0} → (X → Bool) → List X → Type 0
+IsStopped {X} binds pending = (pending ≡ [])
+    ⊎ ((last : X) × EndsWith pending last × (binds last ≡ false))
 
 -- a reader comes to the same as another table and its pending, once the operators that bind so tight have taken their
 -- last operands

@@ -3,7 +3,8 @@ use Rattle.std.proofs.Common.{List, ap, sym, ◌∙◌}
 use Rattle.omega_ltl_formula.specs.Table.{node_at}
 use Rattle.omega_ltl_formula.specs.declared.node.FormulaNode.{FormulaNode}
 use Rattle.omega_ltl_text.specs.private.Nodes.{has_two}
-use Rattle.omega_ltl_text.proofs.Writings.{binary_is, binary_written, left_within, part_within, right_within, two_is, unary_is, unary_written}
+use Rattle.omega_ltl_text.proofs.Writings.{binary_is, binary_written, left_within, part_within, right_within}
+use Rattle.omega_ltl_text.proofs.Writings.{two_is, unary_is, unary_written}
 use Rattle.omega_ltl_text.proofs.writing.write_node.Goals as goal
 
 pub returns-in_ok-push-in-Unary-clause-writes : goal.returns-in_ok-push-in-Unary-clause-writes

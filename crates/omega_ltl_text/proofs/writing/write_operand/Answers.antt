@@ -5,7 +5,8 @@ use Rattle.omega_ltl_formula.specs.declared.node.FormulaNode.{FormulaNode}
 use Rattle.omega_ltl_text.specs.private.Nodes.{has_two}
 use Rattle.omega_ltl_text.proofs.Writings.{bare_written, group_written, two_is}
 use Rattle.omega_ltl_text.proofs.writing.write_operand.Goals as goal
-use Rattle.omega_ltl_text.proofs.writing.write_operand.Goals.{then-has_two+in_ok-push+in_ok-push-2, else-has_two}
+use Rattle.omega_ltl_text.proofs.writing.write_operand.Goals.{then-has_two+in_ok-push+in_ok-push-2}
+use Rattle.omega_ltl_text.proofs.writing.write_operand.Goals.{else-has_two}
 
 pub returns-clause-writes : goal.returns-clause-writes
 returns-clause-writes c =
