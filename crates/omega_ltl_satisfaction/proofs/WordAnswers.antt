@@ -1,5 +1,6 @@
 -- What an answer for the automaton of a symbolic word says of the words that are admitted.
-use Rattle.std.proofs.Common.{◌≡◌, ℕ, Bool, true, false, ◌||◌, List, [], ◌∷◌, length, nat_lt, refl, sym, ap, subst, ◌∙◌, ◌+◌, true≢false}
+use Rattle.std.proofs.Common.{◌≡◌, ℕ, false, ◌||◌, List, [], ◌∷◌, length, nat_lt, refl, sym, ap}
+use Rattle.std.proofs.Common.{subst, ◌∙◌, ◌+◌, true≢false}
 use Rattle.std.specs.List.{AllByRecursion, AllZip, list_any}
 use Rattle.omega_hoa_automaton.specs.Automaton.{Description}
 use Rattle.omega_hoa_automaton.specs.Branching.{has_universal_branching, state_branches}
@@ -9,7 +10,8 @@ use Rattle.omega_hoa_automaton.specs.declared.state.State.{State}
 use Rattle.omega_hoa_label.specs.Raw.{RawLabelTree}
 use Rattle.omega_hoa_syntax.specs.declared.raw_edge.RawEdge.{RawEdge}
 use Rattle.omega_lang_inclusion.specs.Membership.{HasStringNames}
-use Rattle.omega_lang_inclusion.specs.Written.{IsWordAutomaton, letter_count, letter_state, letter_states, letters_of, next_state}
+use Rattle.omega_lang_inclusion.specs.Written.{IsWordAutomaton, letter_count, letter_states}
+use Rattle.omega_lang_inclusion.specs.Written.{letters_of, next_state}
 use Rattle.omega_lang_inclusion.proofs.Running.{accepted_admits, admitted_accepts}
 use Rattle.omega_lang_intersection.specs.declared.answer.Example.{Example}
 use Rattle.omega_lang_lasso_word.specs.Laws.{HasStrings}

@@ -7,7 +7,8 @@ use Rattle.omega_ltl_formula.specs.Table.{NumberedFormula, tree_of}
 use Rattle.omega_text.specs.NamedWords.{NamedWord}
 use Rattle.omega_text.specs.Omniscience.{LimitedPrincipleOfOmniscience}
 use Rattle.omega_ltl_satisfaction.specs.Satisfaction.{IsSatisfaction}
-use Rattle.omega_ltl_satisfaction.specs.declared.satisfaction.Satisfaction.TheVariants.{NotSatisfied, Satisfied}
+use Rattle.omega_ltl_satisfaction.specs.declared.satisfaction.Satisfaction.TheVariants.{NotSatisfied}
+use Rattle.omega_ltl_satisfaction.specs.declared.satisfaction.Satisfaction.TheVariants.{Satisfied}
 
 -- if `Satisfied` is right, each word that the automaton accepts satisfies the formula
 abbrev pub YesMeansEveryWord : Type 0

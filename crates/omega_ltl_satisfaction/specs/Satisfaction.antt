@@ -13,7 +13,8 @@ use Rattle.omega_text.specs.NamedWords.{NamedWord}
 use Rattle.omega_text.specs.Omniscience.{LimitedPrincipleOfOmniscience}
 use Rattle.omega_text.specs.hoa.Forms.{IsQuotable}
 use Rattle.omega_ltl_satisfaction.specs.declared.satisfaction.Satisfaction.{Satisfaction}
-use Rattle.omega_ltl_satisfaction.specs.declared.satisfaction.Satisfaction.TheVariants.{NotSatisfied, Satisfied}
+use Rattle.omega_ltl_satisfaction.specs.declared.satisfaction.Satisfaction.TheVariants.{NotSatisfied}
+use Rattle.omega_ltl_satisfaction.specs.declared.satisfaction.Satisfaction.TheVariants.{Satisfied}
 
 -- each word over names that an automaton accepts satisfies a formula
 abbrev pub AllSatisfy : Description → FormulaTree → Type 0

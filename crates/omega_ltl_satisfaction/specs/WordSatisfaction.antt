@@ -12,20 +12,23 @@ use Rattle.omega_text.specs.NamedWords.{NamedWord}
 use Rattle.omega_text.specs.Omniscience.{LimitedPrincipleOfOmniscience}
 use Rattle.omega_ltl_satisfaction.specs.Satisfaction.{IsOverStrings}
 use Rattle.omega_ltl_satisfaction.specs.declared.word_satisfaction.WordSatisfaction.{WordSatisfaction}
-use Rattle.omega_ltl_satisfaction.specs.declared.word_satisfaction.WordSatisfaction.TheVariants.{NotSatisfied, Satisfied}
+use Rattle.omega_ltl_satisfaction.specs.declared.word_satisfaction.WordSatisfaction.TheVariants.{NotSatisfied}
+use Rattle.omega_ltl_satisfaction.specs.declared.word_satisfaction.WordSatisfaction.TheVariants.{Satisfied}
 
 -- each word over names that a symbolic word admits satisfies a formula
 abbrev pub AllAdmittedSatisfy : SymbolicWord → FormulaTree → Type 0
 AllAdmittedSatisfy word formula = (named : NamedWord) → Admits word named → Satisfies formula named
 
 -- a word over names is admitted and does not satisfy a formula
-pub record IsUnsatisfyingAdmitted (word : SymbolicWord) (formula : FormulaTree) (named : NamedWord) : Type 0 where
+pub record IsUnsatisfyingAdmitted (word : SymbolicWord) (formula : FormulaTree) (named : NamedWord)
+    : Type 0 where
   pub admitted : Admits word named
   pub not_satisfied : ¬ Satisfies formula named
 
 -- some admitted word does not satisfy a formula and fits the text of words, as does no word but such. Names are
 -- strings, as in each text
-pub record IsUnsatisfyingWord (word : SymbolicWord) (formula : NumberedFormula) (words : LassoWord) : Type 0 where
+pub record IsUnsatisfyingWord (word : SymbolicWord) (formula : NumberedFormula) (words : LassoWord)
+    : Type 0 where
   pub named : NamedWord
   pub unsatisfying : IsUnsatisfyingAdmitted word (tree_of formula) named
   pub fits : HasStringNames word → IsOverStrings formula → Fits (lasso_word_text words) named

@@ -1,16 +1,27 @@
 //! Whether each word that an automaton accepts satisfies a formula of linear temporal logic, and if not, words that
 //! show it (Vardi and Wolper 1986).
 //!
-//! The automaton of the negated formula is met with the given one: a common word does not satisfy the formula. Whether
-//! each word that a symbolic word admits satisfies it is decided so too, by the automaton of the word.
+//! The negation of the formula is taken apart into its conjuncts (`conjuncts`). Each becomes an automaton
+//! (`conjunct_automaton`), and these are met with the given one, one after the other (`meeting`), so that a product
+//! reaches only what the automata before it leave. A word that all accept does not satisfy the formula. A lasso of the
+//! last product takes one of the given automaton (`first_example`).
+//!
+//! Whether each word that a symbolic word admits satisfies a formula is decided so too, by the automaton of the word.
 //!
 //! docs/formats.md says when each refusal comes.
 #![tactic(auto)]
 
+mod conjunct;
+mod conjunct_automaton;
+mod conjuncts;
+mod first_example;
 mod laws;
+mod meeting;
 mod names;
+mod parts;
 mod satisfaction;
 mod satisfying;
+mod wanted;
 mod word_satisfaction;
 mod word_satisfying;
 

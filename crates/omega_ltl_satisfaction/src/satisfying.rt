@@ -1,18 +1,21 @@
-//! Satisfaction by the intersection with the automaton of the negation.
+//! Satisfaction by the intersection with the automata of the conjuncts of the negation.
 
-ghost use Rattle.std.specs.Prelude.{◌≡◌, false, IfErr, IfOk, OnOk};
+ghost use Rattle.std.specs.Prelude.{◌≡◌, false, IfErr, IfOk, List, OnOk};
 ghost use Rattle.omega_hoa_automaton.specs.Automaton.{Description};
 ghost use Rattle.omega_hoa_automaton.specs.Branching.{has_universal_branching};
-ghost use Rattle.omega_lang_intersection.specs.Intersection.{IsIntersection};
 ghost use Rattle.omega_ltl_formula.specs.Table.{NumberedFormula};
-ghost use Rattle.omega_ltl_satisfaction.specs.Refusing.{IsNegation, IsNegationRefusal, IsSatisfactionRefusal};
+ghost use Rattle.omega_ltl_satisfaction.specs.Refusing.{IsNegationRefusal, IsSatisfactionRefusal};
 ghost use Rattle.omega_ltl_satisfaction.specs.Satisfaction.{IsSatisfaction};
+ghost use Rattle.omega_ltl_satisfaction.specs.declared.conjunct.Conjunct.{Conjunct};
+ghost use Rattle.omega_ltl_satisfaction.specs.private.Conjuncts.{AreConjuncts};
+ghost use Rattle.omega_ltl_satisfaction.specs.private.Meeting.{IsMeeting};
 
+use crate::conjuncts::conjuncts_of_negation;
+use crate::meeting::common_words;
 use crate::satisfaction::Satisfaction;
 use omega_hoa_automaton::{Automaton, Refusal, has_universal_branching};
-use omega_lang_intersection::{Intersection, intersection};
+use omega_lang_intersection::Intersection;
 use omega_ltl_formula::Formula;
-use omega_ltl_translation::{rejected_words_satisfy, translate};
 use omega_text::TaskFault;
 use std::alloc::Global;
 
@@ -21,16 +24,18 @@ use std::alloc::Global;
 /// of `automaton` and one of `formula` that have one name are the same (HOA v1, AP).
 ///
 /// `automaton` may have choices and any acceptance. This is the intersection with the automaton of the negation of
-/// `formula` (Vardi and Wolper 1986).
+/// `formula` (Vardi and Wolper 1986). If the negation is a conjunction at its top, as that of `f -> g` or `f | g`, it
+/// is met conjunct by conjunct, from left to right, if there are at most 64 of them. All but the last are met by
+/// `product`, and the last by `intersection`.
 ///
-/// Refusals, the first of these steps that has one:
+/// Refusals, the first of these steps that has one, the last two conjunct by conjunct:
 ///
 /// - [TaskFault::UniversalBranch] if a start or an edge of `automaton` lists several states, and only then.
-/// - [TaskFault::TooLarge] if the automaton of the negation passes a limit of `translate`.
-/// - Those of `intersection` for `automaton` and that of the negation: [TaskFault::TooManyPropositions] and
-///   [TaskFault::TooLarge].
+/// - [TaskFault::TooLarge] if the automaton of the conjunct passes a limit of `translate`.
+/// - Those of the product of the automaton so far with that of the conjunct: [TaskFault::TooManyPropositions] and
+///   [TaskFault::TooLarge]. Of the last conjunct they are those of `intersection`, which has no labels to refuse.
 ///
-/// Takes the time of `translate` and `intersection`.
+/// Takes the time of these calls, and if there is a counterexample, that of `pair_graph` for each product.
 pub fn satisfies(
     alloc: Global,
     automaton: &Automaton,
@@ -53,39 +58,23 @@ fn satisfaction_of_plain(
     automaton: &Automaton,
     formula: &Formula,
 ) -> Result<Satisfaction, Refusal>
+    requires { has_universal_branching automaton.now ≡ false }
     ensures right { IfOk result (IsSatisfaction automaton.now formula.now) }
     ensures refused { IfErr result (IsNegationRefusal automaton.now formula.now) }
 {
-    match translate(alloc, formula, true, &[]) {
-        Ok(negation) => satisfaction_beside(alloc, automaton, &negation),
-        Err(refusal) => Err(refusal),
-    }
-}
-
-/// Returns what [satisfaction_of_plain] returns for `automaton` and each formula of which `negation` is the automaton
-/// of the negation.
-fn satisfaction_beside(
-    alloc: Global,
-    automaton: &Automaton,
-    negation: &Automaton,
-) -> Result<Satisfaction, Refusal>
-    ensures right { IfOk result (λ answer. (formula : NumberedFormula) →
-        IsNegation formula negation.now → IsSatisfaction automaton.now formula answer) }
-    ensures refused { IfErr result (λ refusal. (formula : NumberedFormula) →
-        IsNegation formula negation.now → IsNegationRefusal automaton.now formula refusal) }
-{
-    match intersection(alloc, automaton, negation) {
+    let conjuncts = conjuncts_of_negation(alloc, formula)?;
+    match common_words(alloc, automaton, formula, conjuncts.as_slice()) {
         Ok(answer) => Ok(satisfaction_of(answer)),
         Err(refusal) => Err(refusal),
     }
 }
 
-/// Returns what the intersection of an automaton with that of the negation of a formula says of the two.
+/// Returns what the common words of an automaton and the conjuncts of the negation of a formula say of the two.
 fn satisfaction_of(answer: Intersection) -> Satisfaction
-    ensures { (automaton negation : Description) (formula : NumberedFormula) → IsNegation formula negation
-        → IsIntersection automaton negation answer → IsSatisfaction automaton formula result }
+    ensures { (automaton : Description) (formula : NumberedFormula) (conjuncts : List Conjunct)
+        → AreConjuncts formula conjuncts → IsMeeting automaton formula conjuncts answer
+        → IsSatisfaction automaton formula result }
 {
-    rejected_words_satisfy();
     match answer {
         Intersection::Empty => Satisfaction::Satisfied,
         Intersection::Common(example) => Satisfaction::NotSatisfied(example),

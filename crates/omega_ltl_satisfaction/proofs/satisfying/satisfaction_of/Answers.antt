@@ -1,13 +1,13 @@
--- no common word, or words of the negation
+-- no common word, or words of the conjuncts
 use Rattle.std.proofs.Common.{subst}
-use Rattle.omega_lang_intersection.specs.Intersection.{IsIntersection}
-use Rattle.omega_ltl_satisfaction.proofs.Negating.{common_unsatisfying, none_unsatisfying}
+use Rattle.omega_ltl_satisfaction.specs.private.Meeting.{IsMeeting}
+use Rattle.omega_ltl_satisfaction.proofs.Answering.{none_unsatisfying, some_unsatisfying}
 use Rattle.omega_ltl_satisfaction.proofs.satisfying.satisfaction_of.Goals as goal
 
 pub returns-in-Empty : goal.returns-in-Empty
-returns-in-Empty c a negation formula k is =
-    none_unsatisfying a negation formula k c.rejected_words_satisfy.ensures (subst (IsIntersection a negation) c.in-Empty.is is)
+returns-in-Empty c a formula conjuncts are is =
+    none_unsatisfying a formula conjuncts are (subst (IsMeeting a formula conjuncts) c.in-Empty.is is)
 
 pub returns-in-Common : goal.returns-in-Common
-returns-in-Common c a negation formula k is =
-    common_unsatisfying a negation formula k c.in-Common.example (subst (IsIntersection a negation) c.in-Common.is is)
+returns-in-Common c a formula conjuncts are is =
+    some_unsatisfying a formula conjuncts are c.in-Common.example (subst (IsMeeting a formula conjuncts) c.in-Common.is is)

@@ -1,5 +1,5 @@
 -- universal branching is judged first
-use Rattle.std.proofs.Common.{◌∙◌, sym}
+use Rattle.std.proofs.Common.{sym, ◌∙◌}
 use Rattle.std.proofs.lemmas.Result.{IfErr-weaker}
 use Rattle.omega_ltl_satisfaction.specs.Refusing.{not_decided}
 use Rattle.omega_ltl_satisfaction.proofs.satisfying.satisfies.Goals as goal
@@ -7,4 +7,5 @@ use Rattle.omega_ltl_satisfaction.proofs.satisfying.satisfies.Goals as goal
 pub returns-else-has_universal_branching-clause-refused : goal.returns-else-has_universal_branching-clause-refused
 returns-else-has_universal_branching-clause-refused c =
     IfErr-weaker c.satisfaction_of_plain.result _ _
-    (λ refusal is. not_decided (sym c.has_universal_branching.ensures ∙ c.if-has_universal_branching.false) is) c.satisfaction_of_plain.ensures.refused
+    (λ refusal refused. not_decided (sym c.has_universal_branching.ensures ∙ c.if-has_universal_branching.false) refused)
+    c.satisfaction_of_plain.ensures.refused
