@@ -5,7 +5,7 @@
     checks/believing.py --whole                  prints for each promise its files, in the order of reading
     checks/believing.py check --format pg        prints the definitions of that promise, in the order of reading
 
-A promise of a subcommand is the rows of the tables in OneText.antt, Streams.antt and TwoTexts.antt of
+A promise of a subcommand is the rows of the tables in OneText.antt, Streams.antt, TwoTexts.antt and Formulas.antt of
 crates/omega_run/specs for what the subcommand asks for. From the words of these rows the definitions are followed, each to the words of its body, as the
 `use` lines of its file lead. A file stands after the files that it cites. A line of a specs file that has none of the
 forms below is an error, with its file and number.
@@ -23,9 +23,11 @@ from program import ROOT, Cases
 
 PAGE = os.path.join("docs", "believe.md")
 MOST_LINES = 400
-# What one text is answered, a stream, and the other text and that of the input; and how these two are refused.
+# What one text is answered, a stream, the other text and that of the input, and formulas and that of the input; and how
+# the last two kinds are refused.
 TABLES = (("omega_run.specs.OneText", "AnswersOneText"), ("omega_run.specs.Streams", "AnswersStream"),
-          ("omega_run.specs.TwoTexts", "AnswersTwoTexts"), ("omega_run.specs.TwoTexts", "RefusesTwoTexts"))
+          ("omega_run.specs.TwoTexts", "AnswersTwoTexts"), ("omega_run.specs.TwoTexts", "RefusesTwoTexts"),
+          ("omega_run.specs.Formulas", "AnswersFormulas"), ("omega_run.specs.Formulas", "RefusesFormulas"))
 HEADLINE = ("omega_solve.specs.Headline", "Headline")
 # The row of the headline, and what stands beside it.
 HEADLINE_ROW = "the headline, `Headline` of `omega_solve`"
@@ -157,9 +159,10 @@ A proof shows that the code does what the definitions say. It does not show that
 that is for a reader to judge. This page says for each promise with which definitions to begin, and counts what has to
 be read. It is made from the sources by `checks/believing.py`, and `checks/run pages` fails where it is no longer true.
 
-The promise of a subcommand is its rows of the tables in `OneText.antt`, `Streams.antt` and `TwoTexts.antt` of
-`crates/omega_run/specs`, one for each kind: what reads one text, a stream, or another text and that of the input. A row
-says what is written, or which refusal comes; of two texts there is a row for each of the two. The definitions that these rows cite are those to begin
+The promise of a subcommand is its rows of the tables in `OneText.antt`, `Streams.antt`, `TwoTexts.antt` and
+`Formulas.antt` of `crates/omega_run/specs`, one for each kind: what reads one text, a stream, another text and that of
+the input, or formulas and that of the input. A row says what is written, or which refusal comes; of the last two kinds
+there is a row for each of the two. The definitions that these rows cite are those to begin
 with. They, and those that they cite in turn, are all that the promise rests on. A line is a line of a definition or of
 its comment; `use` lines are not counted. The promises share most of their definitions: whoever has read one of them has
 read the greater part of the next.

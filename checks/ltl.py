@@ -7,9 +7,10 @@ The formulas have all operators, constants, and names in quotes. 21 texts are cu
 replaced: each is read, or refused by its refusal at its place. 400 random automata of every acceptance, most of them
 with choices, are asked whether their words satisfy a random formula: `yes` is said only if no short word shows
 otherwise. Of `no` the lasso is an accepting one of the automaton's own edges, which `verify --automaton` confirms, and
-each word that fits the line `word` goes along it, is accepted, and does not satisfy the formula. Formulas stand at both
-sides of their limits; a million parentheses are read, and the program does with 128 KiB of stack on formulas 250 deep.
-Where `spin` is installed, its never claims accept the same words.
+each word that fits the line `word` goes along it, is accepted, and does not satisfy the formula. Several formulas,
+also 400, are answered as each alone, and the first that is refused is told. Formulas stand at both sides of their
+limits; a million parentheses are read, and the program does with 128 KiB of stack on formulas 250 deep. Where `spin` is
+installed, its never claims accept the same words.
 """
 import functools
 import random
@@ -399,6 +400,56 @@ def construction_checks() -> Cases:
                 construction_fault, canonical(one), canonical(("!", one)), False)
 
 
+# ---- several formulas
+
+
+def formula_words(formulas: list[bytes]) -> list[str]:
+    return [word for formula in formulas for word in ("-f", formula.decode())]
+
+
+def in_turn_fault(words: list[str], text: bytes, formulas: list[bytes]) -> Fault:
+    """Whether several formulas are answered as each alone, one after the other, or what is wrong."""
+    answers = {formula: run_of(["satisfies", *words, *formula_words([formula])], text) for formula in formulas}
+    alone = [answers[formula] for formula in formulas]
+    if any(ran.stderr or ran.returncode not in (YES[0], NO[0]) for ran in alone):
+        return f"alone: {[told(ran) for ran in alone]}"
+    return fault_of(["satisfies", *words, *formula_words(formulas)], text, max(ran.returncode for ran in alone),
+                    b"".join(ran.stdout for ran in alone))
+
+
+def first_refused_fault(formulas: list[bytes]) -> Fault:
+    """Whether the first formula that a slow reader refuses is told, or else the automaton, which is none; or what is
+    wrong."""
+    lines = b"omega: 3 Syntax at 0\nomega: in the automaton\n" + line_at(b"x", 0).encode()
+    for number, text in enumerate(formulas, 1):
+        try:
+            read_formula(text)
+        except Refused as refused:
+            place = place_of(refused)
+            line = "" if place is None else line_at(text, place)
+            lines = f"omega: {refused}\nomega: in formula {number}\n{line}".encode()
+            break
+    return fault_of(["satisfies", "-v", *formula_words(formulas)], b"x", 1, b"", lines)
+
+
+def in_turn_checks() -> Cases:
+    systems, drawn = Systems(2045), random.Random(2046)
+    for number in range(200):
+        text = systems.automaton()
+        formulas = [systems.text(systems.tree(1 + number % 6, PLAIN)) for _ in range(3 if number % 5 == 0 else 2)]
+        words = ["--explain"] if number % 2 else []
+        yield f"{formulas!r} of {text!r}", partial(in_turn_fault, words, text, formulas)
+    for word in ("cycle{a}", "a; !b; cycle{b; a & !b}", "cycle{0}", "cycle{a | b}"):
+        formulas = [systems.text(systems.tree(1 + number, PLAIN)) for number in range(6)]
+        yield f"{formulas!r} of {word}", partial(in_turn_fault, ["--explain", "--word", word], b"", formulas)
+    many = [systems.text(systems.tree(1 + number % 4, PLAIN)) for number in range(40)] * 10
+    yield f"{len(many)} formulas", partial(in_turn_fault, [], LANGUAGES[1][0], many)
+    for _ in range(60):
+        texts = [text[:drawn.randint(len(text) - 1, len(text))] for text in drawn.sample(TEXTS, 3)]
+        if all(map(is_given, texts)):
+            yield f"the texts {texts!r}", partial(first_refused_fault, texts)
+
+
 # ---- spin
 
 
@@ -441,5 +492,6 @@ def ltl_checks() -> Cases:
     yield from deep_checks()
     yield from satisfies_checks()
     yield from construction_checks()
+    yield from in_turn_checks()
     if shutil.which("spin"):
         yield from spin_checks()

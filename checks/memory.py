@@ -116,6 +116,9 @@ RUNS: list[Run] = [
     *((["satisfies", *more, "-f", formula], b"", text) for more in (NONE, ["--explain"])
       for formula, text in (("F a", BUCHI), ("G(a -> F !a)", OFTEN), ('b R "c"', WRITTEN))),
     *((["satisfies", "-v", "-f", formula], text, None) for formula, text in (("a &", BUCHI), ("a", b"HOA: v1"))),
+    *((["satisfies", *more, "-f", "F a", "-f", other], OFTEN, None) for more in (NONE, ["-v", "--explain"])
+      for other in ("G a", "a &")),
+    (["satisfies", "-f", "F a", "-f", "0", "--word", "cycle{a}"], b"", None),
     *((["realize", *more], text, None) for text in (ARBITER, SERVANT, GOALS, ARBITER.replace(b"AP: 1 ", b"AP: 1 1 "))
       for more in (NONE, ["--controller"], ["--game"], ["--lift"], ["--lift", "--controller"],
                    ["--lift", "--budget", "0"])),

@@ -115,6 +115,7 @@ def same_checks(room: Room) -> Iterator[Check]:
         ["solve", "--help"], ["--version"], ["frob", "game.pg"], [],
         ["ltl", "-f", "game"], ["ltl", "-fgame.pg"], ["ltl", "--formula=a", "game.pg"], ["ltl", "formula"], ["ltl"],
         ["satisfies", "-f", "0", "game.pg"], ["satisfies", "--formula", "game.pg"], ["satisfies", "-f"],
+        ["satisfies", "-f", "0", "-f1", "game.pg"],
     ]
     for words in lines:
         came = room.ran(words, GAME)

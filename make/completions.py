@@ -5,6 +5,8 @@ import subprocess
 from dataclasses import dataclass, field
 
 VALUES = {"FORMAT": ["pg", "hoa"], "P": ["0", "1"], "SEARCHER": ["zielonka", "tangles"]}
+# The options that may be given several times, by their subcommands.
+REPEATED = {("satisfies", "formula")}
 
 
 @dataclass
@@ -122,8 +124,8 @@ def zsh_completions(commands: list[Subcommand]) -> str:
             values = f":{one.value}:({' '.join(VALUES[one.value])})" if one.value in VALUES else ""
             values = ":file:_files" if one.value == "FILE" else values or (f":{one.value}:" if one.value else "")
             said = f"[{plain(one.help)}]{values}'"
-            words.append(f"'(-{one.letter} --{one.name})'{{-{one.letter},--{one.name}}}'{said}" if one.letter
-                         else f"'--{one.name}{said}")
+            front = "*" if (it.name, one.name) in REPEATED else f"(-{one.letter} --{one.name})"
+            words.append(f"'{front}'{{-{one.letter},--{one.name}}}'{said}" if one.letter else f"'--{one.name}{said}")
         rows.append(f"        {it.name}) _arguments {' '.join(words)} '--help[Print help]' '*:file:_files' ;;")
     table = "\n".join(rows)
     return f"""\

@@ -1,2 +1,4 @@
 -- Lemmas of the answers about formulas.
+pub mod Alone
+pub mod InTurn
 pub mod Strings

@@ -3,6 +3,8 @@ pub mod Formula
 pub mod Canonical
 pub mod Title
 pub mod Ltl
+pub mod Refused
+pub mod InTurn
 pub mod Satisfies
 pub mod SatisfiesWord
 pub mod Laws

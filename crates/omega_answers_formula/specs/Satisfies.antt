@@ -18,6 +18,8 @@ use Rattle.omega_ltl_satisfaction.specs.declared.satisfaction.Satisfaction.{Sati
 use Rattle.omega_ltl_satisfaction.specs.declared.satisfaction.Satisfaction.TheVariants.{NotSatisfied, Satisfied}
 use Rattle.omega_ltl_text.specs.Text.{IsFormulaTextRefusal}
 use Rattle.omega_answers_formula.specs.Formula.{IsFormulaOfText}
+use Rattle.omega_answers_formula.specs.InTurn.{AreAnswered, AreRefused}
+use Rattle.omega_answers_formula.specs.declared.refused_formulas.RefusedFormulas.{RefusedFormulas}
 
 -- `yes`, or `no`, explained by the counterexample
 abbrev pub satisfaction_answer : (explain : Bool) → Satisfaction → Answer
@@ -53,3 +55,19 @@ IsSatisfiesAnswer formula text explain exit output =
 abbrev pub IsSatisfiesRefused : (formula text : List ℕ) → Refused → Type 0
 IsSatisfiesRefused formula text refused = IsFormulaOrAutomatonUnread formula text refused
     ⊎ OfFormulaAndAutomaton (λ read a. IsAboutNeither (IsSatisfactionRefusal a read) refused) formula text
+
+-- ---- several formulas
+
+-- the answers of `satisfies` to the texts of formulas, one after the other
+abbrev pub AreSatisfiesAnswers : (formulas : List (List ℕ)) → (text : List ℕ) → (explain : Bool)
+    → Exit → List ℕ → Type 0
+AreSatisfiesAnswers formulas text explain =
+    AreAnswered (λ formula. IsSatisfiesAnswer formula text explain) formulas
+
+-- the refusal of `satisfies` for the texts of formulas: that of the first of them that is refused, or else that of the
+-- automaton's text, or else that of the first formula that is refused with the automaton
+abbrev pub AreSatisfiesRefused : (formulas : List (List ℕ)) → (text : List ℕ) → (explain : Bool)
+    → RefusedFormulas → Type 0
+AreSatisfiesRefused formulas text explain =
+    AreRefused (IsAutomatonText text) (IsAutomatonRefusal text)
+    (λ a formula. IsSatisfactionVerdict formula a explain) IsSatisfactionRefusal formulas

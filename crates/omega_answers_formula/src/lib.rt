@@ -4,15 +4,21 @@
 #![tactic(auto)]
 
 mod canonical;
-mod formula_and_automaton;
-mod formula_and_word;
+mod formula_answers;
+mod formula_question;
+mod in_turn;
 pub mod laws;
 mod ltl;
+mod refused_formulas;
 mod satisfies;
+mod satisfies_word;
 mod title;
 
 pub use canonical::canonical_formula;
-pub use formula_and_word::satisfies_word;
+pub use formula_answers::FormulaAnswers;
 pub use ltl::ltl_text;
 pub use omega_answers::Exit;
-pub use satisfies::satisfies_texts;
+pub use omega_text::ByteString;
+pub use refused_formulas::{About, RefusedFormulas};
+pub use satisfies::{satisfies_each, satisfies_texts};
+pub use satisfies_word::satisfies_word_each;

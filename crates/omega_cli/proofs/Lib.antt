@@ -1,2 +1,3 @@
 -- Lemmas by theme.
 pub mod Adding
+pub mod Formulas

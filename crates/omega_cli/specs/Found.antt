@@ -1,10 +1,10 @@
 -- What is requested by what `clap` found in the words.
-use Rattle.std.specs.Prelude.{◌≡◌, ◌≢◌, ◌⊎◌, List, Option, Some, None, ℕ, codes}
-use Rattle.clap.specs.Words.{Row, first_of}
+use Rattle.std.specs.Prelude.{◌≡◌, ◌≢◌, ◌⊎◌, List, [], Option, Some, None, ℕ, codes, unwrap_or}
+use Rattle.clap.specs.Words.{Row, all_of, first_of}
 use Rattle.clap.specs.declared.error.kind.ErrorKind.{ErrorKind}
 use Rattle.clap.specs.declared.error.kind.ErrorKind.TheVariants.{DisplayHelp, DisplayVersion}
 use Rattle.omega_cli_command.specs.Mistakes.{IsWrong}
-use Rattle.omega_cli_command.specs.Options.{text_of}
+use Rattle.omega_cli_command.specs.Options.{formulas_of, text_of}
 use Rattle.omega_cli_command.specs.Request.{Asks, IsFault}
 use Rattle.omega_cli_command.specs.Subcommands.{name_of}
 use Rattle.omega_cli_command.specs.declared.subcommand.Subcommand.{Subcommand}
@@ -58,6 +58,10 @@ id_of name.Lenient = codes "lenient"
 id_of name.Verbose = codes "verbose"
 id_of name.File = codes "file"
 
+-- the texts of all formulas, in their order
+abbrev pub given_formulas : List Row → List (List ℕ)
+given_formulas rows = unwrap_or (all_of (id_of name.Formula) rows) []
+
 -- a fault with the message of the mistake is requested; want of memory has no message
 abbrev pub IsFaultOf : Mistake → Request → Type 0
 IsFaultOf found request = IsFault request × (found ≢ mistake.Memory)
@@ -71,7 +75,7 @@ IsRequestOf subcommand options request = Asks subcommand options request
 abbrev pub IsRequestFor : Subcommand → List Row → Request → Type 0
 IsRequestFor subcommand rows request =
     (options : Options) × ((name : OptionName) → text_of name options ≡ first_of (id_of name) rows)
-    × IsRequestOf subcommand options request
+    × (formulas_of options ≡ given_formulas rows) × IsRequestOf subcommand options request
 
 -- this is requested by the subcommand of the name that `clap` found; a fault if it found none, or if none has the name
 abbrev pub IsRequestFound : Option (List ℕ × List Row) → Request → Type 0

@@ -2,7 +2,7 @@
 use Rattle.std.specs.Prelude.{ℕ, List, [], ◌∷◌, Some, true, false, codes}
 use Rattle.clap.specs.Simple.{new_shape}
 use Rattle.clap.specs.Words.{App, Rule, Shape, Text, new_rule}
-use Rattle.clap.specs.declared.builder.action.ArgAction.TheVariants.{SetTrue}
+use Rattle.clap.specs.declared.builder.action.ArgAction.TheVariants.{Append, SetTrue}
 
 -- an option without a text
 abbrev pub flag : Text → Rule
@@ -35,6 +35,10 @@ required name = record (new_rule name) { long = Some name; value_names = 1; requ
 -- the same, which also has a letter
 abbrev pub required_lettered : ℕ → Text → Rule
 required_lettered letter name = record (required name) { short = Some letter }
+
+-- the same, which may be given several times
+abbrev pub required_repeated : ℕ → Text → Rule
+required_repeated letter name = record (required_lettered letter name) { action = Some Append }
 
 -- an option with a text, which has to be given and has another name on the command line
 abbrev pub required_as : (shown : Text) → Text → Rule
@@ -102,7 +106,7 @@ equal = with_options (codes "equal")
 
 -- 102 is the letter f
 abbrev pub satisfies : Shape
-satisfies = with_options (codes "satisfies") (required_lettered 102 (codes "formula")
+satisfies = with_options (codes "satisfies") (required_repeated 102 (codes "formula")
     ∷ optional_as (codes "word") (codes "word-text") ∷ flag (codes "explain") ∷ verbose
     ∷ operand (codes "file") ∷ [])
 

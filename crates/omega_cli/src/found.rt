@@ -1,16 +1,17 @@
 ghost use Rattle.std.specs.Prelude.{◌≡◌};
 ghost use Rattle.clap.specs.Words.{first_of, found_of, rows_of};
-ghost use Rattle.omega_cli.specs.Found.{id_of};
+ghost use Rattle.omega_cli.specs.Found.{given_formulas, id_of};
 ghost use Rattle.omega_cli_command.specs.declared.options.OptionName.{OptionName};
-ghost use Rattle.omega_cli_command.specs.Options.{text_of};
+ghost use Rattle.omega_cli_command.specs.Options.{formulas_of, text_of};
 
 use clap::ArgMatches;
 use omega_cli_command::Options;
 
 /// Returns the texts of the options and of the operand that `clap` found after a subcommand.
-pub fn options_in<'a>(found: &ArgMatches<'a>) -> Options<'a>
-    ensures { (name : OptionName)
+pub fn options_in<'m, 'a>(found: &'m ArgMatches<'a>) -> Options<'m, 'a>
+    ensures texts { (name : OptionName)
         → text_of name result ≡ first_of (id_of name) (rows_of (found_of found.now)) }
+    ensures formulas { formulas_of result ≡ given_formulas (rows_of (found_of found.now)) }
 {
     Options {
         format: found.get_str("format"),
@@ -29,7 +30,7 @@ pub fn options_in<'a>(found: &ArgMatches<'a>) -> Options<'a>
         word: found.get_str("word"),
         word_text: found.get_str("word-text"),
         for_some: found.get_str("some"),
-        formula: found.get_str("formula"),
+        formulas: found.get_strs("formula"),
         negated: found.get_str("negated"),
         status: found.get_str("status"),
         with: found.get_str("with"),

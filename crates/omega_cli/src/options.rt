@@ -31,8 +31,8 @@ pub enum Value {
     OptionalAs(&'static str, &'static str),
     /// A text. The option has to be given.
     Required(&'static str),
-    /// A text. The option has to be given, and also has this letter, after one dash.
-    RequiredLettered(char, &'static str),
+    /// A text. The option has to be given, may be given several times, and also has this letter, after one dash.
+    RequiredRepeated(char, &'static str),
     /// A text. The option has to be given, and has this name after its two dashes, in place of the one by which it is
     /// found.
     RequiredAs(&'static str, &'static str),
@@ -59,11 +59,12 @@ impl OptionHelp {
             }
             Value::OptionalAs(long, name) => arg.long(long).value_name(name),
             Value::Required(name) => arg.long(self.name).value_name(name).required(true),
-            Value::RequiredLettered(letter, name) => {
+            Value::RequiredRepeated(letter, name) => {
                 arg.long(self.name)
                     .short(letter)
                     .value_name(name)
                     .required(true)
+                    .action(ArgAction::Append)
             }
             Value::RequiredAs(long, name) => arg.long(long).value_name(name).required(true),
             Value::Operand(name) => arg.value_name(name),

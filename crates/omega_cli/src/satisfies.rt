@@ -31,6 +31,14 @@ The automaton may have choices, and any acceptance. FORMULA is written as for `o
 what it means. A name of it is the proposition of that name. One that the automaton does not have is free,
 so a misspelt name makes no fault.
 
+Several formulas are answered one after the other, in the order of their options, each as if it were the
+only one. The automaton is read once. The exit status is 6 if one of the answers is `no`. If a text is
+refused, or the task for one of the formulas, nothing is written but the lines of the refusal.
+
+  $ omega satisfies -f 'G F grant -> G F request' -f 'G(request -> F grant)' system.hoa
+  yes
+  no
+
 --word asks instead whether each word that WORD admits satisfies FORMULA, and no automaton is read. WORD is
 written as for `omega accepts`. With --explain one line follows `no`, a word: each word that it admits is
 admitted by WORD, and does not satisfy FORMULA.
@@ -44,22 +52,24 @@ It is answered by the automaton of the negated formula, which `omega ltl --negat
 that both accept?
 
 Faults of FORMULA come first, those of `omega ltl` with the place in FORMULA, then those of the text in
-FILE, which `omega check --help` lists, or those of WORD, as from `omega accepts`. A text with --ABORT--,
-with no automaton or with several is not one automaton, and is refused as 3 Syntax. Then, if a start or an
-edge lists several states joined by &, the refusal is 41 UniversalBranch, or else it is 55 TooLarge if the
-automaton of the negated formula, or its product with that in FILE, is over a limit. 42
-TooManyPropositions comes as from `omega meet`. With --verbose another line says which of the two texts is
-refused, `omega: in the formula`, `omega: in the automaton` or `omega: in the word`. A file that can't be
-read is refused as 61 Io, and with --verbose another line has its name.
+FILE, which `omega check --help` lists, or those of WORD, as from `omega accepts`. Of several formulas all
+are read first, in their order. A text with --ABORT--, with no automaton or with several is not one
+automaton, and is refused as 3 Syntax. Then, if a start or an edge lists several states joined by &, the
+refusal is 41 UniversalBranch, or else it is 55 TooLarge if the automaton of the negated formula, or its
+product with that in FILE, is over a limit. 42 TooManyPropositions comes as from `omega meet`. With
+--verbose another line says which of the texts is refused, `omega: in the formula`, `omega: in the
+automaton` or `omega: in the word`. Of several formulas it is `omega: in formula N`, or of the refusals
+that come of no text alone `omega: at formula N`; the first has the number 1. A file that can't be read is
+refused as 61 Io, and with --verbose another line has its name.
 
 Exit status: 0 yes, 1 a text or the task is refused, 2 the command line is wrong, 4 out of memory, 5 a
-read or a write failed, 6 no.";
+read or a write failed, 6 no, or of several formulas, one `no`.";
 
 const OPTIONS: &[OptionHelp] = &[
     OptionHelp {
         name: "formula",
-        value: Value::RequiredLettered('f', "FORMULA"),
-        help: "The formula, as `omega ltl` reads one",
+        value: Value::RequiredRepeated('f', "FORMULA"),
+        help: "A formula, as `omega ltl` reads one; of several each is answered in turn",
     },
     OptionHelp {
         name: "word-text",

@@ -10,6 +10,7 @@ pub mod Formats
 pub mod OneText
 pub mod Stream
 pub mod TwoTexts
+pub mod Formulas
 pub mod Leniency
 pub mod Task
 pub mod Request

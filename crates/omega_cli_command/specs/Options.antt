@@ -1,5 +1,6 @@
 -- The texts of the options, and what several options give.
-use Rattle.std.specs.Prelude.{◌≡◌, Bool, false, List, Option, Some, None, IsSome, ℕ, option_map}
+use Rattle.std.specs.Prelude.{◌≡◌, ◌≢◌, Bool, false, List, [], Option, Some, None, IsSome, ℕ, map}
+use Rattle.std.specs.Prelude.{option_map, slice_get, unwrap_or}
 use Rattle.omega_text.specs.Limits.{most_number}
 use Rattle.omega_cli_command.specs.Values.{Gives, GivesFlag, IsFormatText, IsNumberText}
 use Rattle.omega_cli_command.specs.declared.format.Format.{Format}
@@ -7,7 +8,12 @@ use Rattle.omega_cli_command.specs.declared.options.OptionName.{OptionName}
 use Rattle.omega_cli_command.specs.declared.options.OptionName.TheVariants as name
 use Rattle.omega_cli_command.specs.declared.options.Options.{Options}
 
--- the text of an option, or of the operand, if it is given
+-- the texts of the formulas, in the order in which they are given
+abbrev pub formulas_of : Options → List (List ℕ)
+formulas_of options =
+    unwrap_or (option_map (λ texts. map (λ text. text.now) texts.now) options.formulas) []
+
+-- the text of an option, or of the operand, if it is given; of several formulas that of the first
 abbrev pub text_of : OptionName → Options → Option (List ℕ)
 text_of name.Format options = option_map (λ text. text.now) options.format
 text_of name.Player options = option_map (λ text. text.now) options.player
@@ -26,7 +32,7 @@ text_of name.Names options = option_map (λ text. text.now) options.names
 text_of name.Word options = option_map (λ text. text.now) options.word
 text_of name.WordText options = option_map (λ text. text.now) options.word_text
 text_of name.ForSome options = option_map (λ text. text.now) options.for_some
-text_of name.Formula options = option_map (λ text. text.now) options.formula
+text_of name.Formula options = slice_get (formulas_of options) 0
 text_of name.Negated options = option_map (λ text. text.now) options.negated
 text_of name.Status options = option_map (λ text. text.now) options.status
 text_of name.With options = option_map (λ text. text.now) options.with
@@ -49,6 +55,10 @@ text_of name.Json options = option_map (λ text. text.now) options.json
 text_of name.Lenient options = option_map (λ text. text.now) options.lenient
 text_of name.Verbose options = option_map (λ text. text.now) options.verbose
 text_of name.File options = option_map (λ text. text.now) options.file
+
+-- the formulas are given, at least one
+abbrev pub GivesFormulas : Options → List (List ℕ) → Type 0
+GivesFormulas options formulas = (formulas ≡ formulas_of options) × (formulas ≢ [])
 
 -- the format is given
 abbrev pub GivesFormat : Options → Format → Type 0

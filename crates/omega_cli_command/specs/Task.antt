@@ -1,6 +1,7 @@
 -- The task that a subcommand asks for.
 use Rattle.std.specs.Prelude.{Bool, true, false, List, Option, None, ℕ}
 use Rattle.omega_cli_command.specs.Formats.{AsksOfEither, LeavesFormat}
+use Rattle.omega_cli_command.specs.Formulas.{AsksFormulas}
 use Rattle.omega_cli_command.specs.Leniency.{IsForGames, MeansForGames}
 use Rattle.omega_cli_command.specs.OneText.{AsksOneText}
 use Rattle.omega_cli_command.specs.Options.{text_of}
@@ -22,6 +23,8 @@ AsksCommand false subcommand options (command.OneText asked) = AsksOneText subco
 AsksCommand false subcommand options (command.Stream asked) = AsksStream subcommand options asked
 AsksCommand false subcommand options (command.TwoTexts asked other) =
     AsksTwoTexts subcommand options asked other
+AsksCommand false subcommand options (command.Formulas asked formulas) =
+    AsksFormulas subcommand options asked formulas.items
 AsksCommand true subcommand options (command.OneText asked) =
     LeavesFormat subcommand options × AsksOfEither subcommand options asked
 AsksCommand true subcommand options other = ⊥

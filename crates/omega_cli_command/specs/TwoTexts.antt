@@ -1,5 +1,5 @@
 -- What a subcommand asks for that reads two texts, and where the other of them comes from.
-use Rattle.std.specs.Prelude.{◌≡◌, ◌≢◌, Bool, true, false, List, Option, Some, None, ℕ, string_bytes}
+use Rattle.std.specs.Prelude.{◌≡◌, Bool, true, false, List, Option, Some, None, ℕ, string_bytes}
 use Rattle.omega_cli_command.specs.Options.{GivesFormat, GivesNode, GivesPart, text_of}
 use Rattle.omega_cli_command.specs.Values.{GivesFlag}
 use Rattle.omega_cli_command.specs.declared.format.Format.TheVariants.{Pg}
@@ -18,7 +18,7 @@ NamesOther None source = ⊥
 NamesOther (Some name) (other.File file) = name ≡ string_bytes file
 NamesOther (Some name) (other.Given text) = ⊥
 
--- the option has the other text, that of a word or of a formula
+-- the option has the other text, that of a word
 abbrev pub HasOther : Option (List ℕ) → Other → Type 0
 HasOther None source = ⊥
 HasOther (Some given) (other.File file) = ⊥
@@ -89,13 +89,6 @@ AsksTwoTexts subcommand options (two.ContainedStream explain) source = (subcomma
     × GivesFlag (text_of name.Stream options) true
 AsksTwoTexts subcommand options (two.Equal explain) source = (subcommand ≡ sub.Equal)
     × NamesOther (text_of name.To options) source × GivesFlag (text_of name.Explain options) explain
-AsksTwoTexts subcommand options (two.Satisfies explain) source = (subcommand ≡ sub.Satisfies)
-    × HasOther (text_of name.Formula options) source
-    × GivesFlag (text_of name.Explain options) explain × (text_of name.WordText options ≡ None)
-AsksTwoTexts subcommand options (two.SatisfiesWord explain) source = (subcommand ≡ sub.Satisfies)
-    × HasOther (text_of name.Formula options) source
-    × GivesFlag (text_of name.Explain options) explain × (text_of name.WordText options ≢ None)
-    × (text_of name.File options ≡ None)
 AsksTwoTexts subcommand options (two.DrawSolution from depth legend) source =
     (subcommand ≡ sub.Draw) × AsksToDraw options (text_of name.Solution options)
     (text_of name.Walk options) from depth legend source

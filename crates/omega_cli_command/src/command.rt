@@ -1,10 +1,12 @@
 ghost use Rattle.std.specs.Prelude.{◌≡◌};
 ghost use Rattle.omega_cli_command.specs.Formats.{for_automata};
 
+use crate::formulas::Formulas;
 use crate::one_text::OneText;
 use crate::other::Other;
 use crate::stream::Stream;
 use crate::two_texts::TwoTexts;
+use omega_text::ByteString;
 
 /// What the program does, by what it reads.
 #[derive(Debug, Drop)]
@@ -15,6 +17,8 @@ pub enum Command {
     Stream(Stream),
     /// Reads the text of the input and the other.
     TwoTexts(TwoTexts, Other),
+    /// Reads these texts of formulas, at least one, and the text of the input.
+    Formulas(Formulas, Vec<ByteString>),
 }
 
 impl Command {

@@ -13,7 +13,10 @@ use crate::subcommand::Subcommand;
 use crate::values::{format_in, is_set};
 
 /// Whether games are read leniently: `subcommand` takes `--lenient`, and it is given.
-pub fn leniency_in<'a>(subcommand: Subcommand, options: &Options<'a>) -> Result<bool, Mistake<'a>>
+pub fn leniency_in<'a>(
+    subcommand: Subcommand,
+    options: &Options<'_, 'a>,
+) -> Result<bool, Mistake<'a>>
     ensures given { IfOk result (GivesLeniency subcommand options.now) }
     ensures mistaken { IfErr result (IsWrong subcommand options.now) }
 {
@@ -37,7 +40,10 @@ fn has_games(subcommand: Subcommand) -> bool
 }
 
 /// Refuses `options` that ask for something else than games.
-pub fn demand_games<'a>(subcommand: Subcommand, options: &Options<'a>) -> Result<(), Mistake<'a>>
+pub fn demand_games<'a>(
+    subcommand: Subcommand,
+    options: &Options<'_, 'a>,
+) -> Result<(), Mistake<'a>>
     requires { GivesLeniency subcommand options.now true }
     ensures games { OnOk result (IsForGames subcommand options.now) }
     ensures mistaken { IfErr result (IsWrong subcommand options.now) }
@@ -50,7 +56,7 @@ pub fn demand_games<'a>(subcommand: Subcommand, options: &Options<'a>) -> Result
 }
 
 /// Refuses `options` by which `verify` judges what is not of a game.
-fn demand_game<'a>(options: &Options<'a>) -> Result<(), Mistake<'a>>
+fn demand_game<'a>(options: &Options<'_, 'a>) -> Result<(), Mistake<'a>>
     requires { GivesLeniency sub.Verify options.now true }
     ensures games { OnOk result (IsForGames sub.Verify options.now) }
     ensures mistaken { IfErr result (IsWrong sub.Verify options.now) }
@@ -65,7 +71,10 @@ fn demand_game<'a>(options: &Options<'a>) -> Result<(), Mistake<'a>>
 }
 
 /// Refuses another format than that of games.
-fn demand_game_format<'a>(subcommand: Subcommand, options: &Options<'a>) -> Result<(), Mistake<'a>>
+fn demand_game_format<'a>(
+    subcommand: Subcommand,
+    options: &Options<'_, 'a>,
+) -> Result<(), Mistake<'a>>
     requires lenient { GivesLeniency subcommand options.now true }
     requires format { HasOption subcommand name.Format }
     ensures games { OnOk result (IsForGames subcommand options.now) }
@@ -81,7 +90,7 @@ fn demand_game_format<'a>(subcommand: Subcommand, options: &Options<'a>) -> Resu
 }
 
 /// Returns what `options` mean with `--lenient`: the format is that of games.
-pub fn meant_for_games<'a>(options: &Options<'a>) -> Options<'a>
+pub fn meant_for_games<'m, 'a>(options: &Options<'m, 'a>) -> Options<'m, 'a>
     ensures { MeansForGames options.now result }
 {
     Options {

@@ -3,6 +3,7 @@
 
 mod command;
 mod format;
+mod formulas;
 mod leniency;
 mod limits;
 mod mistake;
@@ -22,9 +23,11 @@ mod values;
 
 pub use command::Command;
 pub use format::Format;
+pub use formulas::Formulas;
 pub use limits::{MOST_BUDGET, MOST_EFFORT, budget_limit_is_stated, effort_limit_is_stated};
 pub use mistake::{Mistake, Reason};
 pub use omega_game_values::{Player, Refusal};
+pub use omega_text::ByteString;
 pub use one_text::OneText;
 pub use options::{OptionName, Options};
 pub use other::Other;

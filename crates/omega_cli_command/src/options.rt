@@ -1,3 +1,7 @@
+ghost use Rattle.std.specs.Prelude.{◌≡◌, option_map};
+ghost use Rattle.omega_cli_command.specs.Options.{text_of};
+ghost use Rattle.omega_cli_command.specs.declared.options.OptionName.TheVariants as name;
+
 use std::fmt;
 
 /// The options of all subcommands, and the operand.
@@ -96,7 +100,7 @@ impl fmt::Display for OptionName {
 
 /// The texts of the options that are given, and of the operand.
 #[derive(Clone, Copy)]
-pub struct Options<'a> {
+pub struct Options<'m, 'a> {
     /// The kind of text, `pg` or `hoa`.
     pub format: Option<&'a str>,
     /// The number of a player, 0 or 1.
@@ -129,8 +133,8 @@ pub struct Options<'a> {
     pub word_text: Option<&'a str>,
     /// As `search`.
     pub for_some: Option<&'a str>,
-    /// The text of a formula.
-    pub formula: Option<&'a str>,
+    /// The texts of the formulas, in the order in which they are given.
+    pub formulas: Option<&'m [&'a str]>,
     /// As `search`.
     pub negated: Option<&'a str>,
     /// As `search`.
@@ -175,4 +179,13 @@ pub struct Options<'a> {
     pub verbose: Option<&'a str>,
     /// The operand: the name of the file of the input.
     pub file: Option<&'a str>,
+}
+
+impl<'m, 'a> Options<'m, 'a> {
+    /// Returns the text of the first formula, if one is given.
+    pub fn first_formula(&self) -> Option<&'a str>
+        ensures { option_map (λ text. text.now) result ≡ text_of name.Formula self.now }
+    {
+        self.formulas?.first().copied()
+    }
 }

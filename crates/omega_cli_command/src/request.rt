@@ -30,7 +30,7 @@ pub enum Request {
 pub fn request_for<'a>(
     alloc: Global,
     subcommand: Subcommand,
-    options: &Options<'a>,
+    options: &Options<'_, 'a>,
 ) -> Result<Request, Mistake<'a>>
     ensures asked { IfOk result (Asks subcommand options.now) }
     ensures runnable { IfOk result IsRunnable }
@@ -53,7 +53,7 @@ pub fn request_for<'a>(
 fn task_reading<'a>(
     alloc: Global,
     subcommand: Subcommand,
-    options: &Options<'a>,
+    options: &Options<'_, 'a>,
     lenient: bool,
 ) -> Result<Task, Mistake<'a>>
     requires { GivesLeniency subcommand options.now lenient }

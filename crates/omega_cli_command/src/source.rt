@@ -28,13 +28,13 @@ const STANDARD_INPUT: &str = "-";
 pub(crate) fn source_in<'a>(
     alloc: Global,
     subcommand: Subcommand,
-    options: &Options<'a>,
+    options: &Options<'_, 'a>,
 ) -> Result<Source, Mistake<'a>>
     ensures given { IfOk result (GivesSource subcommand options.now) }
     ensures memory { IfErr result (λ found. found ≡ mistake.Memory) }
 {
     match subcommand {
-        Subcommand::Ltl => text_source(alloc, options.formula, options),
+        Subcommand::Ltl => text_source(alloc, options.first_formula(), options),
         Subcommand::Satisfies => text_source(alloc, options.word_text, options),
         _ => operand_source(alloc, options),
     }
@@ -44,7 +44,7 @@ pub(crate) fn source_in<'a>(
 fn text_source<'a>(
     alloc: Global,
     given: Option<&'a str>,
-    options: &Options<'a>,
+    options: &Options<'_, 'a>,
 ) -> Result<Source, Mistake<'a>>
     ensures given { IfOk result
         (GivesText (option_map (λ text. text.now) given.entry) (text_of name.File options.now)) }
@@ -60,7 +60,7 @@ fn text_source<'a>(
 }
 
 /// Returns the source that the operand gives: the file that it names, or standard input.
-fn operand_source<'a>(alloc: Global, options: &Options<'a>) -> Result<Source, Mistake<'a>>
+fn operand_source<'a>(alloc: Global, options: &Options<'_, 'a>) -> Result<Source, Mistake<'a>>
     ensures given { IfOk result (GivesOperand (text_of name.File options.now)) }
     ensures memory { IfErr result (λ found. found ≡ mistake.Memory) }
 {
@@ -77,7 +77,7 @@ fn operand_source<'a>(alloc: Global, options: &Options<'a>) -> Result<Source, Mi
 }
 
 /// Whether the operand names a file.
-pub(crate) fn names_file(options: &Options<'_>) -> bool
+pub(crate) fn names_file(options: &Options<'_, '_>) -> bool
     ensures named { result ≡ true → NamesFile (text_of name.File options.now) }
     ensures unnamed { result ≡ false → NamesFile (text_of name.File options.now) → ⊥ }
 {

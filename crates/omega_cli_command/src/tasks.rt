@@ -10,6 +10,7 @@ mod empty;
 mod formats;
 mod ltl;
 mod realize;
+mod satisfies;
 mod show;
 mod solve;
 mod transform;
@@ -28,20 +29,19 @@ use draw::draw_task;
 use empty::empty_task;
 use ltl::ltl_task;
 use realize::realize_task;
+use satisfies::satisfies_task;
 use show::show_task;
 use solve::solve_task;
 use std::alloc::Global;
 use transform::{complement_task, trim_task};
-use two_automata::{
-    accepts_task, contained_task, equal_task, join_task, meet_task, satisfies_task,
-};
+use two_automata::{accepts_task, contained_task, equal_task, join_task, meet_task};
 use verify::verify_task;
 
 /// Returns the task that `subcommand` requests with `options`, or what is wrong with them.
 pub(crate) fn task_for<'a>(
     alloc: Global,
     subcommand: Subcommand,
-    options: &Options<'a>,
+    options: &Options<'_, 'a>,
 ) -> Result<Task, Mistake<'a>>
     ensures asked { IfOk result (AsksFor subcommand options.now) }
     ensures mistaken { IfErr result (IsMistake subcommand options.now) }

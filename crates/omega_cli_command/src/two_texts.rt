@@ -1,5 +1,5 @@
-/// A command about two texts, that of the input and another: that of a file; or for `Accepts` and
-/// `AcceptsSome` the text of a word, and for `Satisfies` and `SatisfiesWord` that of a formula.
+/// A command about two texts, that of the input and another: that of a file, or for `Accepts` and `AcceptsSome` the
+/// text of a word.
 #[derive(Clone, Copy, Debug)]
 pub enum TwoTexts {
     /// Checks the solution that the input has, of the game of the file or of the part of it that one node reaches.
@@ -65,17 +65,6 @@ pub enum TwoTexts {
     },
     /// Says whether the automata of the file and of the input accept the same words.
     Equal {
-        /// Whether a `no` is explained.
-        explain: bool,
-    },
-    /// Says whether each word that the automaton of the input accepts satisfies the formula of the other text.
-    Satisfies {
-        /// Whether a `no` is explained.
-        explain: bool,
-    },
-    /// Says whether each word that the input admits, which is the text of a word, satisfies the formula of the other
-    /// text.
-    SatisfiesWord {
         /// Whether a `no` is explained.
         explain: bool,
     },

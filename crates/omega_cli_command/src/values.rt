@@ -18,7 +18,7 @@ use omega_game_values::Player;
 use omega_text::MOST_NUMBER;
 
 /// Returns the kind of text, which has to be given.
-pub fn format_in<'a>(options: &Options<'a>) -> Result<Format, Mistake<'a>>
+pub fn format_in<'a>(options: &Options<'_, 'a>) -> Result<Format, Mistake<'a>>
     ensures given { IfOk result (GivesFormat options.now) }
     ensures faulty { IfErr result (IsFaulty name.Format options.now) }
 {
@@ -35,7 +35,7 @@ pub fn format_in<'a>(options: &Options<'a>) -> Result<Format, Mistake<'a>>
 }
 
 /// Returns the name of the file of the other automaton, which has to be given.
-pub fn other_in<'a>(options: &Options<'a>) -> Result<&'a str, Mistake<'a>>
+pub fn other_in<'a>(options: &Options<'_, 'a>) -> Result<&'a str, Mistake<'a>>
     ensures given { IfOk result (λ file. text_of name.With options.now ≡ Some file.now) }
     ensures faulty { IfErr result (IsFaulty name.With options.now) }
 {
@@ -46,7 +46,7 @@ pub fn other_in<'a>(options: &Options<'a>) -> Result<&'a str, Mistake<'a>>
 }
 
 /// Returns the player, if one is named.
-pub fn player_in<'a>(options: &Options<'a>) -> Result<Option<Player>, Mistake<'a>>
+pub fn player_in<'a>(options: &Options<'_, 'a>) -> Result<Option<Player>, Mistake<'a>>
     ensures given { IfOk result (Gives IsPlayerText (text_of name.Player options.now)) }
     ensures faulty { IfErr result (IsFaulty name.Player options.now) }
 {
@@ -60,7 +60,7 @@ pub fn player_in<'a>(options: &Options<'a>) -> Result<Option<Player>, Mistake<'a
 }
 
 /// Returns the identifier of the node whose part is meant, if one is named.
-pub fn identifier_in<'a>(options: &Options<'a>) -> Result<Option<u32>, Mistake<'a>>
+pub fn identifier_in<'a>(options: &Options<'_, 'a>) -> Result<Option<u32>, Mistake<'a>>
     ensures given { IfOk result (GivesNode options.now) }
     ensures faulty { IfErr result (IsFaulty name.From options.now) }
 {
@@ -74,7 +74,7 @@ pub fn identifier_in<'a>(options: &Options<'a>) -> Result<Option<u32>, Mistake<'
 }
 
 /// Returns how many steps from that node the part goes, if that is given.
-pub fn depth_in<'a>(options: &Options<'a>) -> Result<Option<u32>, Mistake<'a>>
+pub fn depth_in<'a>(options: &Options<'_, 'a>) -> Result<Option<u32>, Mistake<'a>>
     ensures given { IfOk result (Gives (IsNumberText 0 most_number) (text_of name.Depth options.now)) }
     ensures faulty { IfErr result (IsFaulty name.Depth options.now) }
 {
@@ -116,7 +116,7 @@ fn truth_in(text: &str) -> Option<bool>
 }
 
 /// Returns the most lifts of each run. The default is the greatest budget.
-pub fn budget_in<'a>(options: &Options<'a>) -> Result<u64, Mistake<'a>>
+pub fn budget_in<'a>(options: &Options<'_, 'a>) -> Result<u64, Mistake<'a>>
     ensures given { IfOk result (GivesBudget (text_of name.Budget options.now)) }
     ensures faulty { IfErr result (IsFaulty name.Budget options.now) }
 {
@@ -130,7 +130,7 @@ pub fn budget_in<'a>(options: &Options<'a>) -> Result<u64, Mistake<'a>>
 }
 
 /// Returns the searcher that is to search alone, if one is named.
-pub fn searcher_in<'a>(options: &Options<'a>) -> Result<Option<SearcherName>, Mistake<'a>>
+pub fn searcher_in<'a>(options: &Options<'_, 'a>) -> Result<Option<SearcherName>, Mistake<'a>>
     ensures given { IfOk result (Gives IsSearcherText (text_of name.By options.now)) }
     ensures faulty { IfErr result (IsFaulty name.By options.now) }
 {
@@ -147,7 +147,7 @@ pub fn searcher_in<'a>(options: &Options<'a>) -> Result<Option<SearcherName>, Mi
 }
 
 /// Returns how many times as far each searcher may go. The default is 1.
-pub fn effort_in<'a>(options: &Options<'a>) -> Result<u64, Mistake<'a>>
+pub fn effort_in<'a>(options: &Options<'_, 'a>) -> Result<u64, Mistake<'a>>
     ensures given { IfOk result (GivesEffort (text_of name.Effort options.now)) }
     ensures faulty { IfErr result (IsFaulty name.Effort options.now) }
 {

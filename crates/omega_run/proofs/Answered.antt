@@ -1,10 +1,12 @@
 -- What a command makes of its texts, from what it makes of one text, of a stream, or of two.
-use Rattle.std.proofs.Common.{◌≡◌, ◌⊎◌, ℕ, ◌+◌, ◌≤◌, Bool, List, length, Option, None, Some, Result, Ok, Err, IfOk, IfErr, ap, inl, inr, refl, subst}
+use Rattle.std.specs.Global.{Global}
+use Rattle.std.proofs.Common.{◌≡◌, ◌⊎◌, ℕ, ◌+◌, ◌≤◌, Bool, List, length, Option, None, Some, Result, Ok, Err, IfOk, IfErr, Vec, ap, inl, inr, refl, subst}
 use Rattle.omega_text.specs.Cases.{never, or_memory}
 use Rattle.omega_text.specs.Limits.{most_text}
 use Rattle.omega_text.specs.declared.refusal.Refusal.{Refusal}
 use Rattle.omega_text.specs.declared.refusal.Refusal.TheVariants.{Automaton, Game, Io, Memory, Task, Text}
 use Rattle.omega_cli_command.specs.declared.command.Command.TheVariants as command
+use Rattle.omega_cli_command.specs.declared.formulas.Formulas.{Formulas}
 use Rattle.omega_cli_command.specs.declared.one_text.OneText.{OneText}
 use Rattle.omega_cli_command.specs.declared.other.Other.{Other}
 use Rattle.omega_cli_command.specs.declared.stream.Stream.{Stream}
@@ -20,6 +22,7 @@ use Rattle.omega_io.specs.Failures.{failures_in, failures_of}
 use Rattle.omega_io.specs.Reading.{ReadsText}
 use Rattle.omega_io.specs.Refused.{IsAbout, IsRefusedOf, about}
 use Rattle.omega_run.specs.Answers.{IsAnswer, Texts}
+use Rattle.omega_run.specs.Formulas.{AnswersFormulas, IsUnnumbered, RefusesFormulas}
 use Rattle.omega_run.specs.OneText.{AnswersOneText}
 use Rattle.omega_run.specs.Pieces.{IsStreamRefusal, Responds}
 use Rattle.omega_run.specs.Results.{of_input, plain, with_bytes}
@@ -71,6 +74,13 @@ module _ {T : Type 0} (bytes_of : T → List ℕ) (budget : ℕ) (read : Texts) 
       → IsAnswer (command.TwoTexts two from) budget read (with_bytes bytes_of result)
   two_texts_answer two from (Ok made) answered refused = answered
   two_texts_answer two from (Err refusal) answered refused = refused
+
+  pub formulas_answer : (asked : Formulas) (formulas : Vec (List ℕ) Global) (result : Result (Exit × T) Refused)
+      → IfOk result (λ made. AnswersFormulas asked formulas.items read.input made.0 (bytes_of made.1))
+      → IfErr result (IsUnnumbered (RefusesFormulas asked formulas.items read.input))
+      → IsAnswer (command.Formulas asked formulas) budget read (with_bytes bytes_of result)
+  formulas_answer asked formulas (Ok made) answered refused = answered
+  formulas_answer asked formulas (Err refusal) answered refused = refused
 
 -- which text a refusal is about is left out again
 about_input_plain : (refusal : Refusal) → (about Input refusal).refusal ≡ refusal

@@ -102,3 +102,5 @@ command_lines held failed every budget sound before after fits same (command.Str
     no_lines held failed every budget sound read.input before after fits same kept
 command_lines held failed every budget sound before after fits same (command.TwoTexts two from) read made kept =
     no_lines held failed every budget sound read.input before after fits same kept
+command_lines held failed every budget sound before after fits same (command.Formulas asked formulas) read made kept =
+    no_lines held failed every budget sound read.input before after fits same kept

@@ -2,10 +2,11 @@
 use Rattle.std.specs.Prelude.{List, Result, Ok, Err, ℕ}
 use Rattle.omega_text.specs.Cases.{never}
 use Rattle.omega_cli_command.specs.declared.command.Command.{Command}
-use Rattle.omega_cli_command.specs.declared.command.Command.TheVariants.{OneText, Stream, TwoTexts}
+use Rattle.omega_cli_command.specs.declared.command.Command.TheVariants.{Formulas, OneText, Stream, TwoTexts}
 use Rattle.omega_io.specs.declared.exit.Exit.{Exit}
 use Rattle.omega_io.specs.declared.refused.Refused.{Refused}
 use Rattle.omega_io.specs.Refused.{IsRefusedOf}
+use Rattle.omega_run.specs.Formulas.{AnswersFormulas, IsUnnumbered, RefusesFormulas}
 use Rattle.omega_run.specs.OneText.{AnswersOneText}
 use Rattle.omega_run.specs.Streams.{AnswersStream}
 use Rattle.omega_run.specs.TwoTexts.{AnswersTwoTexts, RefusesTwoTexts}
@@ -25,6 +26,8 @@ IsReply (Stream stream) budget read exit output =
     AnswersStream stream budget read.input (Ok (exit, output))
 IsReply (TwoTexts two from) budget read exit output =
     AnswersTwoTexts two read.other read.input exit output
+IsReply (Formulas asked formulas) budget read exit output =
+    AnswersFormulas asked formulas.items read.input exit output
 
 -- why the texts are refused, and which of them that is about; or memory is wanting
 abbrev pub IsRefused : Command → ℕ → Texts → Refused → Type 0
@@ -33,6 +36,8 @@ IsRefused (OneText one) budget read =
 IsRefused (Stream stream) budget read =
     IsRefusedOf never (λ refusal. AnswersStream stream budget read.input (Err refusal))
 IsRefused (TwoTexts two from) budget read = RefusesTwoTexts two read.other read.input
+IsRefused (Formulas asked formulas) budget read =
+    IsUnnumbered (RefusesFormulas asked formulas.items read.input)
 
 -- what the command makes of its texts with this budget, or why it makes nothing
 abbrev pub IsAnswer : Command → ℕ → Texts → Result (Exit × List ℕ) Refused → Type 0

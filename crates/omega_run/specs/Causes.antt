@@ -15,6 +15,8 @@ use Rattle.omega_hoa_diagnostics.specs.ChoiceCauses.{IsChoiceCause}
 use Rattle.omega_hoa_diagnostics.specs.ItemCauses.{IsItemCause}
 use Rattle.omega_cli_command.specs.declared.command.Command.{Command}
 use Rattle.omega_cli_command.specs.declared.command.Command.TheVariants as command
+use Rattle.omega_cli_command.specs.declared.formulas.Formulas.{Formulas}
+use Rattle.omega_cli_command.specs.declared.formulas.Formulas.TheVariants as asked
 use Rattle.omega_cli_command.specs.declared.one_text.OneText.{OneText}
 use Rattle.omega_cli_command.specs.declared.one_text.OneText.TheVariants.{Canon, CanonLeast, CanonPart}
 use Rattle.omega_cli_command.specs.declared.one_text.OneText.TheVariants.{Check, DrawGame, DrawPart, Ltl}
@@ -58,14 +60,16 @@ kind_of_two (two.Accepts explain) File = kind.Other
 kind_of_two (two.Accepts explain) Input = kind.Automata
 kind_of_two (two.AcceptsSome explain) File = kind.Other
 kind_of_two (two.AcceptsSome explain) Input = kind.Automata
-kind_of_two (two.Satisfies explain) File = kind.Other
-kind_of_two (two.Satisfies explain) Input = kind.Automata
-kind_of_two (two.SatisfiesWord explain) which = kind.Other
 kind_of_two (two.DrawSolution from depth legend) File = kind.Solution from
 kind_of_two (two.DrawSolution from depth legend) Input = kind.Game
 kind_of_two (two.DrawWalk from depth legend) File = kind.Other
 kind_of_two (two.DrawWalk from depth legend) Input = kind.Game
 kind_of_two asked which = kind.Automata
+
+-- what a command that asks formulas reads the text of the input as
+abbrev pub kind_asked : Formulas → TextKind
+kind_asked (asked.Satisfies explain) = kind.Automata
+kind_asked (asked.SatisfiesWord explain) = kind.Other
 
 -- the line that names a place of the text, or no line if there is no place
 abbrev pub line_at : List ℕ → Option ℕ → List ℕ
@@ -106,6 +110,8 @@ kind_of (command.OneText one) Input = kind_of_one one
 kind_of (command.Stream stream) File = kind.Other
 kind_of (command.Stream stream) Input = kind.Automata
 kind_of (command.TwoTexts two from) which = kind_of_two two which
+kind_of (command.Formulas asked formulas) File = kind.Other
+kind_of (command.Formulas asked formulas) Input = kind_asked asked
 
 -- the one of the texts, and the one beside it
 abbrev pub text_of : Texts → Which → List ℕ

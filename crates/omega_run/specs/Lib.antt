@@ -12,6 +12,8 @@ pub mod Answers
 pub mod Causes
 pub mod Files
 pub mod Formats
+pub mod FormulaRun
+pub mod Formulas
 pub mod Held
 pub mod Lenient
 pub mod Obey

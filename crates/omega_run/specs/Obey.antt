@@ -7,7 +7,7 @@ use Rattle.omega_text.specs.declared.refusal.Refusal.{Refusal}
 use Rattle.omega_text.specs.declared.refusal.Refusal.TheVariants.{Io}
 use Rattle.omega_cli_command.specs.Formats.{for_automata}
 use Rattle.omega_cli_command.specs.declared.command.Command.{Command}
-use Rattle.omega_cli_command.specs.declared.command.Command.TheVariants.{Stream}
+use Rattle.omega_cli_command.specs.declared.command.Command.TheVariants.{Formulas, Stream}
 use Rattle.omega_cli_command.specs.declared.format.Format.TheVariants.{Hoa, Pg}
 use Rattle.omega_cli_command.specs.declared.request.Request.{Request}
 use Rattle.omega_cli_command.specs.declared.request.Request.TheVariants.{Do, Fault, Help}
@@ -22,6 +22,7 @@ use Rattle.omega_io.specs.Writing.{WritesBeginning}
 use Rattle.omega_run.specs.Answers.{both_texts}
 use Rattle.omega_run.specs.Files.{ReadsFiles, RefusesFiles, lines_of_file, operand_text, other_text}
 use Rattle.omega_run.specs.Formats.{IsFormatOf}
+use Rattle.omega_run.specs.FormulaRun.{AreAsked}
 use Rattle.omega_run.specs.Held.{IsReadSo}
 use Rattle.omega_run.specs.Pieces.{IsRunOnStream}
 use Rattle.omega_run.specs.Report.{Reports, ReportsBy}
@@ -44,12 +45,25 @@ IsCommandFor task false text command = command ≡ task.command
 IsCommandFor task true text command = (IsFormatOf text Pg × (command ≡ task.command))
     ⊎ (IsFormatOf text Hoa × (command ≡ for_automata task.command))
 
+-- the command for the format of the input's text was done with these texts in memory
+abbrev pub IsDoneForFormat : Task → (other input : List ℕ) → ℕ → (List ℕ → Type 0)
+    → (before after : Written) → Type 0
+IsDoneForFormat task other input status tells before after = (command : Command)
+    × IsCommandFor task task.by_text input command
+    × IsReadSo task.lenient task command (both_texts other input) status tells before after
+
+-- the task of this command was done with these texts in memory: formulas are asked of the text as it is
+abbrev pub IsDoneBy : Command → Task → (other input : List ℕ) → ℕ → (List ℕ → Type 0)
+    → (before after : Written) → Type 0
+IsDoneBy (Formulas asked formulas) task other input status tells before after =
+    AreAsked task.verbose asked formulas.items input status tells before after
+IsDoneBy command task other input status tells before after =
+    IsDoneForFormat task other input status tells before after
+
 -- the task was done with these texts in memory
 abbrev pub IsDoneWithTexts : Task → (other input : List ℕ) → ℕ → (List ℕ → Type 0)
     → (before after : Written) → Type 0
-IsDoneWithTexts task other input status tells before after = (command : Command)
-    × IsCommandFor task task.by_text input command
-    × IsReadSo task.lenient task command (both_texts other input) status tells before after
+IsDoneWithTexts task = IsDoneBy task.command task
 
 -- nothing was written before this refusal of the input; one read failed if it is for that, and else none
 pub record IsUnanswered (refusal : Refusal) (before after : Streams) : Type 0 where

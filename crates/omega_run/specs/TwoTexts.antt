@@ -5,7 +5,6 @@ use Rattle.omega_cli_command.specs.declared.two_texts.TwoTexts.{TwoTexts}
 use Rattle.omega_cli_command.specs.declared.two_texts.TwoTexts.TheVariants.{Accepts, AcceptsSome, Contained}
 use Rattle.omega_cli_command.specs.declared.two_texts.TwoTexts.TheVariants.{ContainedStream, DrawSolution}
 use Rattle.omega_cli_command.specs.declared.two_texts.TwoTexts.TheVariants.{DrawWalk, Equal, Join, Meet}
-use Rattle.omega_cli_command.specs.declared.two_texts.TwoTexts.TheVariants.{Satisfies, SatisfiesWord}
 use Rattle.omega_cli_command.specs.declared.two_texts.TwoTexts.TheVariants.{Verify, VerifyController}
 use Rattle.omega_cli_command.specs.declared.two_texts.TwoTexts.TheVariants.{VerifyCounterStrategy}
 use Rattle.omega_cli_command.specs.declared.two_texts.TwoTexts.TheVariants.{VerifyLasso, VerifyNamed}
@@ -20,8 +19,6 @@ use Rattle.omega_answers_automaton.specs.Join.{IsJoinAnswer, IsJoinRefused}
 use Rattle.omega_answers_automaton.specs.Meet.{IsMeetAnswer, IsMeetRefused}
 use Rattle.omega_answers_automaton.specs.TrimmedMeet.{IsMeetTrimmedAnswer, IsMeetTrimmedRefused}
 use Rattle.omega_answers_automaton.specs.Verify.{IsLassoAnswer, IsLassoRefused}
-use Rattle.omega_answers_formula.specs.Satisfies.{IsSatisfiesAnswer, IsSatisfiesRefused}
-use Rattle.omega_answers_formula.specs.SatisfiesWord.{IsSatisfiesWordAnswer, IsSatisfiesWordRefused}
 use Rattle.omega_answers_game.specs.Draw.{IsSolutionDrawingAnswer}
 use Rattle.omega_answers_game.specs.Verify.{IsJudgedGameRefusal, IsVerifyAnswer, RefusesSolution}
 use Rattle.omega_answers_game.specs.Winners.{IsWinnersAnswer, IsWinnersGameRefusal, RefusesWinners}
@@ -65,8 +62,6 @@ AnswersTwoTexts (Contained explain) other input = IsContainedAnswer other input 
 AnswersTwoTexts (ContainedStream explain) other input =
     EndsEach true (stream.AreContainedAnswers other input explain)
 AnswersTwoTexts (Equal explain) other input = IsEqualAnswer other input explain
-AnswersTwoTexts (Satisfies explain) other input = IsSatisfiesAnswer other input explain
-AnswersTwoTexts (SatisfiesWord explain) other input = IsSatisfiesWordAnswer other input explain
 AnswersTwoTexts (DrawSolution from depth legend) other input =
     IsDoneWith (IsSolutionDrawingAnswer input other from depth legend)
 AnswersTwoTexts (DrawWalk from depth legend) other input =
@@ -100,10 +95,6 @@ name_of (ContainedStream explain) File = codes "other automaton"
 name_of (ContainedStream explain) Input = codes "automaton"
 name_of (Equal explain) File = codes "other automaton"
 name_of (Equal explain) Input = codes "automaton"
-name_of (Satisfies explain) File = codes "formula"
-name_of (Satisfies explain) Input = codes "automaton"
-name_of (SatisfiesWord explain) File = codes "formula"
-name_of (SatisfiesWord explain) Input = codes "word"
 name_of (DrawSolution from depth legend) File = codes "solution"
 name_of (DrawSolution from depth legend) Input = codes "game"
 name_of (DrawWalk from depth legend) File = codes "walk"
@@ -128,8 +119,6 @@ RefusesTwoTexts Join other input = IsJoinRefused other input
 RefusesTwoTexts (Contained explain) other input = IsContainedRefused other input
 RefusesTwoTexts (ContainedStream explain) other input = RefusesContainedStream other input explain
 RefusesTwoTexts (Equal explain) other input = IsEqualRefused other input
-RefusesTwoTexts (Satisfies explain) other input = IsSatisfiesRefused other input
-RefusesTwoTexts (SatisfiesWord explain) other input = IsSatisfiesWordRefused other input
 RefusesTwoTexts (DrawSolution from depth legend) other input =
     IsRefusedOf (RefusesSolution input from other) (IsJudgedGameRefusal input from)
 RefusesTwoTexts (DrawWalk from depth legend) other input =

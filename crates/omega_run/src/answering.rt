@@ -6,6 +6,7 @@ ghost use Rattle.omega_run.specs.Progress.{IsReported};
 ghost use Rattle.omega_run.specs.Results.{of_input, with_bytes};
 ghost use Rattle.omega_run.specs.Searching.{AreTurnsFor};
 
+use crate::formulas::reply_to_formulas;
 use crate::held_text::HeldText;
 use crate::one_text::answer_one_text;
 use crate::stream::answer_stream;
@@ -48,6 +49,10 @@ pub(crate) fn answer<L, T: Reporter<L>>(
             of_input(answer_stream(alloc, *stream, &mut HeldText::new(texts.input), budget))
         }
         Command::TwoTexts(two, _) => answer_two_texts(alloc, *two, texts),
+        Command::Formulas(asked, formulas) => {
+            let input = texts.input;
+            reply_to_formulas(alloc, *asked, formulas.as_slice(), input)
+        }
     }
 }
 

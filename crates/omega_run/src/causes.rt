@@ -40,7 +40,7 @@ pub(crate) fn cause_about(alloc: Global, held: Held<'_>, verbose: bool, refused:
 
 /// Returns the cause of the refusal of a text that is `written` so and read as `text`, beside another text, or no bytes
 /// if there is no line to write.
-fn cause_in(
+pub(crate) fn cause_in(
     alloc: Global,
     kind: TextKind,
     written: &[u8],

@@ -4,13 +4,14 @@ ghost use Rattle.omega_text.specs.Limits.{most_text};
 ghost use Rattle.omega_solve.specs.Limits.{most_lifts};
 ghost use Rattle.omega_run.specs.Answers.{both_texts};
 ghost use Rattle.omega_run.specs.Held.{IsAnswered, IsReadSo, IsReportedSo};
-ghost use Rattle.omega_run.specs.Obey.{IsDoneWithTexts};
+ghost use Rattle.omega_run.specs.Obey.{IsDoneForFormat, IsDoneWithTexts};
 ghost use Rattle.omega_io.specs.Exit.{status_of};
 ghost use Rattle.omega_run.specs.Results.{plain};
 ghost use Rattle.omega_run.specs.World.{tells_of, written_to};
 
 use crate::causes::cause_about;
 use crate::format::format_of;
+use crate::formulas::run_formulas;
 use crate::lenient::strict_texts;
 use crate::reporting::{lines_about, report_lines};
 use crate::searching::tell_search;
@@ -23,7 +24,7 @@ use omega_text::MOST_TEXT;
 use std::alloc::Global;
 
 /// Does a task with its texts, and returns the status to end with. The command is that for the format that the input's
-/// text tells, if it is to tell it.
+/// text tells, if it is to tell it. Formulas are asked of the text as it is.
 pub(crate) fn run_texts<W: Output, E: Output>(
     alloc: Global,
     task: &Task,
@@ -36,6 +37,42 @@ pub(crate) fn run_texts<W: Output, E: Output>(
     requires writes { W.failed output.old < 2 ^ 64 - 1 }
     requires tells { E.failed errors.old < 2 ^ 64 - 1 }
     ensures { IsDoneWithTexts task.now texts.entry.other.now texts.entry.input.now result
+        (tells_of E.Output errors.old errors.new)
+        (written_to W.Output output.old) (written_to W.Output output.new) }
+{
+    match &task.command {
+        Command::Formulas(asked, formulas) => {
+            let formulas = formulas.as_slice();
+            let verbose = task.verbose;
+            run_formulas(
+                alloc,
+                *asked,
+                formulas,
+                verbose,
+                texts.input,
+                output,
+                errors,
+            )
+        }
+        Command::OneText(_) => run_for_format(alloc, task, texts, output, errors),
+        Command::Stream(_) => run_for_format(alloc, task, texts, output, errors),
+        Command::TwoTexts(_, _) => run_for_format(alloc, task, texts, output, errors),
+    }
+}
+
+/// Does a task with its texts, by the command for the format that the input's text tells, if it is to tell it.
+fn run_for_format<W: Output, E: Output>(
+    alloc: Global,
+    task: &Task,
+    texts: Texts<'_>,
+    output: &mut W,
+    errors: &mut E,
+) -> u8
+    requires budget { task.now.budget ≤ most_lifts }
+    requires limit { length texts.input.now ≤ most_text + 1 }
+    requires writes { W.failed output.old < 2 ^ 64 - 1 }
+    requires tells { E.failed errors.old < 2 ^ 64 - 1 }
+    ensures { IsDoneForFormat task.now texts.entry.other.now texts.entry.input.now result
         (tells_of E.Output errors.old errors.new)
         (written_to W.Output output.old) (written_to W.Output output.new) }
 {

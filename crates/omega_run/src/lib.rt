@@ -7,6 +7,7 @@ mod answering;
 mod causes;
 mod files;
 mod format;
+mod formulas;
 mod held;
 mod held_text;
 mod laws;
@@ -27,7 +28,8 @@ pub use held_text::HeldText;
 pub use laws::budgets_are_of_solvers;
 pub use obeying::obey;
 pub use omega_cli_command::{
-    Command, Format, OneText, Other, Player, Request, SearcherName, Source, Stream, Task, TwoTexts,
+    Command, Format, Formulas, OneText, Other, Player, Request, SearcherName, Source, Stream, Task,
+    TwoTexts,
 };
 pub use omega_io::{
     Exit, FromRead, HostFiles, Input, InputFiles, Output, Reason, Refusal, Refused, ToWrite,

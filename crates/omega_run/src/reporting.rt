@@ -84,7 +84,7 @@ pub(crate) fn lines_about(
 }
 
 /// Returns the line of a refusal.
-fn line_in(alloc: Global, refusal: Refusal) -> Result<Vec<u8>, Refusal>
+pub(crate) fn line_in(alloc: Global, refusal: Refusal) -> Result<Vec<u8>, Refusal>
     ensures line { IfOk result (λ line. line.items ≡ line_of refusal) }
     ensures memory { IsOkUnless result Memory }
 {
@@ -117,8 +117,6 @@ fn names_of(command: TwoTexts) -> (&'static str, &'static str)
         TwoTexts::VerifyController { .. } => ("specification", "controller"),
         TwoTexts::VerifyCounterStrategy { .. } => ("specification", "counter-strategy"),
         TwoTexts::Accepts { .. } | TwoTexts::AcceptsSome { .. } => ("word", "automaton"),
-        TwoTexts::Satisfies { .. } => ("formula", "automaton"),
-        TwoTexts::SatisfiesWord { .. } => ("formula", "word"),
         TwoTexts::Meet { .. }
         | TwoTexts::Join
         | TwoTexts::Contained { .. }

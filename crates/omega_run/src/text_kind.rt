@@ -1,8 +1,8 @@
 ghost use Rattle.std.specs.Prelude.{◌≡◌};
 ghost use Rattle.omega_io.specs.declared.refused.Which.TheVariants.{File, Input};
-ghost use Rattle.omega_run.specs.Causes.{kind_of, kind_of_one, kind_of_two};
+ghost use Rattle.omega_run.specs.Causes.{kind_asked, kind_of, kind_of_one, kind_of_two};
 
-use omega_cli_command::{Command, OneText, TwoTexts};
+use omega_cli_command::{Command, Formulas, OneText, TwoTexts};
 use omega_io::Which;
 
 /// What a text is read as, by which the causes of its refusals differ.
@@ -31,6 +31,7 @@ pub(crate) fn kind_of(command: &Command, which: Which) -> TextKind
         Command::OneText(one) => (TextKind::Other, kind_of_one(*one)),
         Command::Stream(_) => (TextKind::Other, TextKind::Automata),
         Command::TwoTexts(two, _) => kinds_of_two(*two),
+        Command::Formulas(asked, _) => (TextKind::Other, kind_asked(*asked)),
     };
     match which {
         Which::File => other,
@@ -58,6 +59,16 @@ fn kind_of_one(command: OneText) -> TextKind
     }
 }
 
+/// Returns what a command that asks formulas reads the text of the input as.
+pub(crate) fn kind_asked(asked: Formulas) -> TextKind
+    ensures { result ≡ kind_asked asked }
+{
+    match asked {
+        Formulas::Satisfies { .. } => TextKind::Automata,
+        Formulas::SatisfiesWord { .. } => TextKind::Other,
+    }
+}
+
 /// Returns what `command` reads the other text and that of the input as.
 fn kinds_of_two(command: TwoTexts) -> (TextKind, TextKind)
     ensures other { result.0 ≡ kind_of_two command File }
@@ -69,10 +80,9 @@ fn kinds_of_two(command: TwoTexts) -> (TextKind, TextKind)
         }
         TwoTexts::VerifyWinners { .. } => (TextKind::Game, TextKind::Winners),
         TwoTexts::VerifyLasso { .. } => (TextKind::Automata, TextKind::Other),
-        TwoTexts::Accepts { .. } | TwoTexts::AcceptsSome { .. } | TwoTexts::Satisfies { .. } => {
+        TwoTexts::Accepts { .. } | TwoTexts::AcceptsSome { .. } => {
             (TextKind::Other, TextKind::Automata)
         }
-        TwoTexts::SatisfiesWord { .. } => (TextKind::Other, TextKind::Other),
         TwoTexts::DrawSolution { from, .. } => (TextKind::Solution { from }, TextKind::Game),
         TwoTexts::DrawWalk { .. } => (TextKind::Other, TextKind::Game),
         _ => (TextKind::Automata, TextKind::Automata),

@@ -8,7 +8,6 @@ use crate::held_text::HeldText;
 use crate::stream::exit_after;
 use crate::texts::Texts;
 use omega_answers_automaton::{join_texts, meet_texts, meet_trimmed_texts, verify_lasso};
-use omega_answers_formula::{satisfies_texts, satisfies_word};
 use omega_answers_game::{draw_solution_text, verify_solution, verify_winners};
 use omega_answers_inclusion::{accepts_some_text, accepts_text, contained_texts, equal_texts};
 use omega_answers_stream_questions::contained_stream;
@@ -44,8 +43,6 @@ pub(crate) fn answer_two_texts(
             verify_counter_strategy(alloc, other, input, explain)
         }
         TwoTexts::Accepts { explain } => accepts_text(alloc, other, input, explain),
-        TwoTexts::Satisfies { explain } => satisfies_texts(alloc, other, input, explain),
-        TwoTexts::SatisfiesWord { explain } => satisfies_word(alloc, other, input, explain),
         TwoTexts::AcceptsSome { explain } => accepts_some_text(alloc, other, input, explain),
         TwoTexts::Meet { trim: false } => Ok((Exit::Done, meet_texts(alloc, other, input)?)),
         TwoTexts::Meet { trim: true } => Ok((Exit::Done, meet_trimmed_texts(alloc, other, input)?)),

@@ -20,7 +20,7 @@ use crate::tasks::formats::{leaves_format, task_by_text};
 use crate::values::{format_in, identifier_in, is_set};
 
 /// Returns the task that `canon` requests with `options`, or what is wrong with them.
-pub(crate) fn canon_task<'a>(options: &Options<'a>) -> Result<Task, Mistake<'a>>
+pub(crate) fn canon_task<'a>(options: &Options<'_, 'a>) -> Result<Task, Mistake<'a>>
     ensures asked { IfOk result (AsksFor sub.Canon options.now) }
     ensures mistaken { IfErr result (IsMistake sub.Canon options.now) }
 {
@@ -35,7 +35,7 @@ pub(crate) fn canon_task<'a>(options: &Options<'a>) -> Result<Task, Mistake<'a>>
 }
 
 /// Whether `options` have none that goes with one format alone.
-fn goes_with_either(options: &Options<'_>, min: bool) -> bool
+fn goes_with_either(options: &Options<'_, '_>, min: bool) -> bool
     requires min { GivesFlag (text_of name.Min options.now) min }
     ensures either { result ≡ true → GoesWithEither sub.Canon options.now }
     ensures one_alone { result ≡ false → GoesWithEither sub.Canon options.now → ⊥ }
@@ -44,7 +44,7 @@ fn goes_with_either(options: &Options<'_>, min: bool) -> bool
 }
 
 /// Returns the task that `canon` requests for a game, or what is wrong with `options`.
-fn game_task<'a>(options: &Options<'a>, min: bool) -> Result<Task, Mistake<'a>>
+fn game_task<'a>(options: &Options<'_, 'a>, min: bool) -> Result<Task, Mistake<'a>>
     requires format { GivesFormat options.now Pg }
     requires min { GivesFlag (text_of name.Min options.now) min }
     ensures asked { IfOk result (AsksFor sub.Canon options.now) }
@@ -61,7 +61,7 @@ fn game_task<'a>(options: &Options<'a>, min: bool) -> Result<Task, Mistake<'a>>
 }
 
 /// Returns the task that `canon` requests for a stream of automata, or what is wrong with `options`.
-fn automata_task<'a>(options: &Options<'a>, min: bool) -> Result<Task, Mistake<'a>>
+fn automata_task<'a>(options: &Options<'_, 'a>, min: bool) -> Result<Task, Mistake<'a>>
     requires format { GivesFormat options.now Hoa }
     requires min { GivesFlag (text_of name.Min options.now) min }
     ensures asked { IfOk result (AsksFor sub.Canon options.now) }

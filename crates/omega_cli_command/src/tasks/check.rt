@@ -11,7 +11,7 @@ use crate::task::Task;
 use crate::tasks::formats::either_task;
 
 /// Returns the task that `check` requests with `options`, or what is wrong with them.
-pub(crate) fn check_task<'a>(options: &Options<'a>) -> Result<Task, Mistake<'a>>
+pub(crate) fn check_task<'a>(options: &Options<'_, 'a>) -> Result<Task, Mistake<'a>>
     ensures asked { IfOk result (AsksFor sub.Check options.now) }
     ensures mistaken { IfErr result (IsMistake sub.Check options.now) }
 {

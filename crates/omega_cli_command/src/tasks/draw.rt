@@ -21,7 +21,7 @@ use crate::values::{depth_in, format_in, identifier_in, is_set};
 use std::alloc::Global;
 
 /// Returns the task that `draw` requests with `options`, or what is wrong with them.
-pub(crate) fn draw_task<'a>(alloc: Global, options: &Options<'a>) -> Result<Task, Mistake<'a>>
+pub(crate) fn draw_task<'a>(alloc: Global, options: &Options<'_, 'a>) -> Result<Task, Mistake<'a>>
     ensures asked { IfOk result (AsksFor sub.Draw options.now) }
     ensures mistaken { IfErr result (IsMistake sub.Draw options.now) }
 {
@@ -37,7 +37,7 @@ pub(crate) fn draw_task<'a>(alloc: Global, options: &Options<'a>) -> Result<Task
 }
 
 /// Whether `options` have none that goes with one format alone.
-fn goes_with_either(options: &Options<'_>, legend: bool, lasso: bool) -> bool
+fn goes_with_either(options: &Options<'_, '_>, legend: bool, lasso: bool) -> bool
     requires legend { GivesFlag (text_of name.Legend options.now) legend }
     requires lasso { GivesFlag (text_of name.Lasso options.now) lasso }
     ensures either { result ≡ true → GoesWithEither sub.Draw options.now }
@@ -55,7 +55,7 @@ fn goes_with_either(options: &Options<'_>, legend: bool, lasso: bool) -> bool
 /// Returns the task that `draw` requests for a game, or what is wrong with `options`.
 fn game_task<'a>(
     alloc: Global,
-    options: &Options<'a>,
+    options: &Options<'_, 'a>,
     legend: bool,
     lasso: bool,
 ) -> Result<Task, Mistake<'a>>
@@ -80,7 +80,7 @@ fn game_task<'a>(
 /// `options`.
 fn part_task<'a>(
     alloc: Global,
-    options: &Options<'a>,
+    options: &Options<'_, 'a>,
     from: Option<u32>,
     depth: Option<u32>,
     legend: bool,
@@ -121,7 +121,11 @@ fn part_task<'a>(
 }
 
 /// Returns the task that `draw` requests for an automaton, or what is wrong with `options`.
-fn automaton_task<'a>(options: &Options<'a>, legend: bool, lasso: bool) -> Result<Task, Mistake<'a>>
+fn automaton_task<'a>(
+    options: &Options<'_, 'a>,
+    legend: bool,
+    lasso: bool,
+) -> Result<Task, Mistake<'a>>
     requires format { GivesFormat options.now Hoa }
     requires legend { GivesFlag (text_of name.Legend options.now) legend }
     requires lasso { GivesFlag (text_of name.Lasso options.now) lasso }

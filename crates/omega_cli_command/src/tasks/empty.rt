@@ -16,7 +16,7 @@ use crate::task::Task;
 use crate::values::{budget_in, is_set};
 
 /// Returns the task that `empty` requests with `options`, or what is wrong with them.
-pub(crate) fn empty_task<'a>(options: &Options<'a>) -> Result<Task, Mistake<'a>>
+pub(crate) fn empty_task<'a>(options: &Options<'_, 'a>) -> Result<Task, Mistake<'a>>
     ensures asked { IfOk result (AsksFor sub.Empty options.now) }
     ensures mistaken { IfErr result (IsMistake sub.Empty options.now) }
 {
@@ -44,7 +44,7 @@ pub(crate) fn empty_task<'a>(options: &Options<'a>) -> Result<Task, Mistake<'a>>
 /// Returns the command that `empty` requests for one automaton or a stream, decided by lifting or by a search, or what
 /// is wrong with `options`.
 fn empty_command<'a>(
-    options: &Options<'a>,
+    options: &Options<'_, 'a>,
     stream: bool,
     search: bool,
 ) -> Result<Command, Mistake<'a>>

@@ -21,7 +21,7 @@ use crate::values::format_in;
 
 /// Returns the task of `game`, a command of games, or of that of automata in its place, or what is wrong with the
 /// format. It is that of `options`, or is left to the text of the file that the operand names.
-pub(crate) fn either_task<'a>(options: &Options<'a>, game: OneText) -> Result<Task, Mistake<'a>>
+pub(crate) fn either_task<'a>(options: &Options<'_, 'a>, game: OneText) -> Result<Task, Mistake<'a>>
     ensures asked { (subcommand : Subcommand) → AsksOfEither subcommand options.now game
         → IfOk result (AsksFor subcommand options.now) }
     ensures mistaken { (subcommand : Subcommand) → HasOption subcommand name.Format
@@ -47,7 +47,7 @@ pub(crate) fn task_by_text(game: OneText) -> Task
 }
 
 /// Whether no format is given, and the operand names a file, whose text may tell it.
-pub(crate) fn leaves_format(options: &Options<'_>) -> bool
+pub(crate) fn leaves_format(options: &Options<'_, '_>) -> bool
     ensures unformatted { result ≡ true → text_of name.Format options.now ≡ None }
     ensures named { result ≡ true → NamesFile (text_of name.File options.now) }
     ensures told { result ≡ false → text_of name.Format options.now ≡ None

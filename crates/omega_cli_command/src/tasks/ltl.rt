@@ -12,12 +12,12 @@ use crate::task::Task;
 use crate::values::is_set;
 
 /// Returns the task that `ltl` requests with `options`, or what is wrong with them.
-pub(crate) fn ltl_task<'a>(options: &Options<'a>) -> Result<Task, Mistake<'a>>
+pub(crate) fn ltl_task<'a>(options: &Options<'_, 'a>) -> Result<Task, Mistake<'a>>
     ensures asked { IfOk result (AsksFor sub.Ltl options.now) }
     ensures mistaken { IfErr result (IsMistake sub.Ltl options.now) }
 {
     let negated = is_set(OptionName::Negated, options.negated)?;
-    if options.formula.is_some() && options.file.is_some() {
+    if options.first_formula().is_some() && options.file.is_some() {
         return Err(Mistake::Conflict(OptionName::Formula, OptionName::File));
     }
     Ok(Task::of(Command::OneText(OneText::Ltl { negated })))

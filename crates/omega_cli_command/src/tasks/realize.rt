@@ -12,7 +12,7 @@ use crate::task::Task;
 use crate::values::{budget_in, is_set};
 
 /// Returns the task that `realize` requests with `options`, or what is wrong with them.
-pub(crate) fn realize_task<'a>(options: &Options<'a>) -> Result<Task, Mistake<'a>>
+pub(crate) fn realize_task<'a>(options: &Options<'_, 'a>) -> Result<Task, Mistake<'a>>
     ensures asked { IfOk result (AsksFor sub.Realize options.now) }
     ensures mistaken { IfErr result (IsMistake sub.Realize options.now) }
 {

@@ -12,7 +12,7 @@ use crate::tasks::formats::either_task;
 use crate::values::is_set;
 
 /// Returns the task that `show` requests with `options`, or what is wrong with them.
-pub(crate) fn show_task<'a>(options: &Options<'a>) -> Result<Task, Mistake<'a>>
+pub(crate) fn show_task<'a>(options: &Options<'_, 'a>) -> Result<Task, Mistake<'a>>
     ensures asked { IfOk result (AsksFor sub.Show options.now) }
     ensures mistaken { IfErr result (IsMistake sub.Show options.now) }
 {

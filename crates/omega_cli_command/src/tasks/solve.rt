@@ -12,7 +12,7 @@ use crate::task::Task;
 use crate::values::{budget_in, effort_in, identifier_in, is_set, player_in, searcher_in};
 
 /// Returns the task that `solve` requests with `options`, or what is wrong with them.
-pub(crate) fn solve_task<'a>(options: &Options<'a>) -> Result<Task, Mistake<'a>>
+pub(crate) fn solve_task<'a>(options: &Options<'_, 'a>) -> Result<Task, Mistake<'a>>
     ensures asked { IfOk result (AsksFor sub.Solve options.now) }
     ensures mistaken { IfErr result (IsMistake sub.Solve options.now) }
 {

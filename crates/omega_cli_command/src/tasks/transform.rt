@@ -13,7 +13,7 @@ use crate::task::Task;
 use crate::values::is_set;
 
 /// Returns the task that `complement` requests with `options`, or what is wrong with them.
-pub(crate) fn complement_task<'a>(options: &Options<'a>) -> Result<Task, Mistake<'a>>
+pub(crate) fn complement_task<'a>(options: &Options<'_, 'a>) -> Result<Task, Mistake<'a>>
     ensures asked { IfOk result (AsksFor sub.Complement options.now) }
     ensures mistaken { IfErr result (IsMistake sub.Complement options.now) }
 {
@@ -25,7 +25,7 @@ pub(crate) fn complement_task<'a>(options: &Options<'a>) -> Result<Task, Mistake
 }
 
 /// Returns the task that `trim` requests with `options`, or what is wrong with them.
-pub(crate) fn trim_task<'a>(options: &Options<'a>) -> Result<Task, Mistake<'a>>
+pub(crate) fn trim_task<'a>(options: &Options<'_, 'a>) -> Result<Task, Mistake<'a>>
     ensures asked { IfOk result (AsksFor sub.Trim options.now) }
     ensures mistaken { IfErr result (IsMistake sub.Trim options.now) }
 {

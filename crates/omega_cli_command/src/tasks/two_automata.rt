@@ -1,4 +1,4 @@
-//! The tasks about two automata, or about an automaton and a word or a formula.
+//! The tasks about two automata, or about an automaton and a word.
 ghost use Rattle.std.specs.Prelude.{IfErr, IfOk};
 ghost use Rattle.omega_cli_command.specs.Mistakes.{IsMistake};
 ghost use Rattle.omega_cli_command.specs.Task.{AsksFor};
@@ -14,7 +14,7 @@ use crate::values::{is_set, other_in};
 use std::alloc::Global;
 
 /// Returns the task that `meet` requests with `options`, or what is wrong with them.
-pub(crate) fn meet_task<'a>(alloc: Global, options: &Options<'a>) -> Result<Task, Mistake<'a>>
+pub(crate) fn meet_task<'a>(alloc: Global, options: &Options<'_, 'a>) -> Result<Task, Mistake<'a>>
     ensures asked { IfOk result (AsksFor sub.Meet options.now) }
     ensures mistaken { IfErr result (IsMistake sub.Meet options.now) }
 {
@@ -24,7 +24,7 @@ pub(crate) fn meet_task<'a>(alloc: Global, options: &Options<'a>) -> Result<Task
 }
 
 /// Returns the task that `join` requests with `options`, or what is wrong with them.
-pub(crate) fn join_task<'a>(alloc: Global, options: &Options<'a>) -> Result<Task, Mistake<'a>>
+pub(crate) fn join_task<'a>(alloc: Global, options: &Options<'_, 'a>) -> Result<Task, Mistake<'a>>
     ensures asked { IfOk result (AsksFor sub.Join options.now) }
     ensures mistaken { IfErr result (IsMistake sub.Join options.now) }
 {
@@ -33,7 +33,10 @@ pub(crate) fn join_task<'a>(alloc: Global, options: &Options<'a>) -> Result<Task
 }
 
 /// Returns the task that `accepts` requests with `options`, or what is wrong with them.
-pub(crate) fn accepts_task<'a>(alloc: Global, options: &Options<'a>) -> Result<Task, Mistake<'a>>
+pub(crate) fn accepts_task<'a>(
+    alloc: Global,
+    options: &Options<'_, 'a>,
+) -> Result<Task, Mistake<'a>>
     ensures asked { IfOk result (AsksFor sub.Accepts options.now) }
     ensures mistaken { IfErr result (IsMistake sub.Accepts options.now) }
 {
@@ -51,7 +54,10 @@ pub(crate) fn accepts_task<'a>(alloc: Global, options: &Options<'a>) -> Result<T
 }
 
 /// Returns the task that `contained` requests with `options`, or what is wrong with them.
-pub(crate) fn contained_task<'a>(alloc: Global, options: &Options<'a>) -> Result<Task, Mistake<'a>>
+pub(crate) fn contained_task<'a>(
+    alloc: Global,
+    options: &Options<'_, 'a>,
+) -> Result<Task, Mistake<'a>>
     ensures asked { IfOk result (AsksFor sub.Contained options.now) }
     ensures mistaken { IfErr result (IsMistake sub.Contained options.now) }
 {
@@ -68,7 +74,7 @@ pub(crate) fn contained_task<'a>(alloc: Global, options: &Options<'a>) -> Result
 }
 
 /// Returns the task that `equal` requests with `options`, or what is wrong with them.
-pub(crate) fn equal_task<'a>(alloc: Global, options: &Options<'a>) -> Result<Task, Mistake<'a>>
+pub(crate) fn equal_task<'a>(alloc: Global, options: &Options<'_, 'a>) -> Result<Task, Mistake<'a>>
     ensures asked { IfOk result (AsksFor sub.Equal options.now) }
     ensures mistaken { IfErr result (IsMistake sub.Equal options.now) }
 {
@@ -77,24 +83,4 @@ pub(crate) fn equal_task<'a>(alloc: Global, options: &Options<'a>) -> Result<Tas
         return Err(Mistake::Missing(OptionName::To));
     };
     Task::with_file(alloc, TwoTexts::Equal { explain }, name)
-}
-
-/// Returns the task that `satisfies` requests with `options`, or what is wrong with them.
-pub(crate) fn satisfies_task<'a>(alloc: Global, options: &Options<'a>) -> Result<Task, Mistake<'a>>
-    ensures asked { IfOk result (AsksFor sub.Satisfies options.now) }
-    ensures mistaken { IfErr result (IsMistake sub.Satisfies options.now) }
-{
-    let explain = is_set(OptionName::Explain, options.explain)?;
-    let Some(formula) = options.formula else {
-        return Err(Mistake::Missing(OptionName::Formula));
-    };
-    if options.word_text.is_some() && options.file.is_some() {
-        return Err(Mistake::Conflict(OptionName::WordText, OptionName::File));
-    }
-    let other = Other::given(alloc, formula)?;
-    if options.word_text.is_some() {
-        Ok(Task::of(Command::TwoTexts(TwoTexts::SatisfiesWord { explain }, other)))
-    } else {
-        Ok(Task::of(Command::TwoTexts(TwoTexts::Satisfies { explain }, other)))
-    }
 }

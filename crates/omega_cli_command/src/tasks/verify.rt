@@ -16,7 +16,7 @@ use crate::values::{identifier_in, is_set};
 use std::alloc::Global;
 
 /// Returns the task that `verify` requests with `options`, or what is wrong with them.
-pub(crate) fn verify_task<'a>(alloc: Global, options: &Options<'a>) -> Result<Task, Mistake<'a>>
+pub(crate) fn verify_task<'a>(alloc: Global, options: &Options<'_, 'a>) -> Result<Task, Mistake<'a>>
     ensures asked { IfOk result (AsksFor sub.Verify options.now) }
     ensures mistaken { IfErr result (IsMistake sub.Verify options.now) }
 {
@@ -48,7 +48,7 @@ pub(crate) fn verify_task<'a>(alloc: Global, options: &Options<'a>) -> Result<Ta
 /// is wrong with them.
 fn solution_task<'a>(
     alloc: Global,
-    options: &Options<'a>,
+    options: &Options<'_, 'a>,
     explain: bool,
     winners: bool,
     names: bool,
@@ -93,7 +93,7 @@ fn solution_question(from: Option<u32>, explain: bool, winners: bool, names: boo
 /// with them.
 fn lasso_task<'a>(
     alloc: Global,
-    options: &Options<'a>,
+    options: &Options<'_, 'a>,
     automaton: &'a str,
     explain: bool,
     winners: bool,
@@ -126,7 +126,7 @@ fn lasso_task<'a>(
 /// Returns the task that `verify` requests with `options` that name a specification, or what is wrong with them.
 fn specified_task<'a>(
     alloc: Global,
-    options: &Options<'a>,
+    options: &Options<'_, 'a>,
     specification: &'a str,
     counter_strategy: bool,
     explain: bool,

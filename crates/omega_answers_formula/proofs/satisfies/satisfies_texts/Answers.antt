@@ -1,23 +1,20 @@
--- one of the texts is refused, or what is answered or refused is that of the formula and the automaton
-use Rattle.std.proofs.Common.{inr, refl, subst, sym}
-use Rattle.omega_answers.specs.TwoTexts.{IsAboutNeither}
-use Rattle.omega_ltl_satisfaction.specs.Refusing.{IsSatisfactionRefusal}
+-- one formula is answered as a list of it is
+use Rattle.std.proofs.Common.{[], ◌∷◌, List, ℕ, inl, refl, subst, sym}
+use Rattle.omega_io.specs.declared.exit.Exit.{Exit}
+use Rattle.omega_io.specs.declared.refused.Refused.{Refused}
+use Rattle.omega_answers_formula.specs.Satisfies.{AreSatisfiesAnswers, AreSatisfiesRefused, IsSatisfiesAnswer, IsSatisfiesRefused}
+use Rattle.omega_answers_formula.proofs.Alone.{refused_alone}
+use Rattle.omega_answers_formula.proofs.InTurn.{answered_alone}
 use Rattle.omega_answers_formula.proofs.satisfies.satisfies_texts.Goals as goal
 
-pub returns-in-Ok-clause-answer : goal.returns-in-Ok-clause-answer
-returns-in-Ok-clause-answer c = record {
-  file = c.in_ok-read.read.formula;
-  file_read = c.in_ok-read.ensures.formula;
-  input = c.in_ok-read.read.automaton;
-  input_read = c.in_ok-read.ensures.automaton;
-  holds = c.in-Ok.ensures.verdict;
-}
+pub returns-in-Ok-satisfies_each-clause-answer : goal.returns-in-Ok-satisfies_each-clause-answer
+returns-in-Ok-satisfies_each-clause-answer c =
+    answered_alone (λ formula. IsSatisfiesAnswer formula c.args.text.now c.args.explain) c.args.formula.now
+    c.in-Ok-satisfies_each.made.exit c.in-Ok-satisfies_each.made.text.items
+    (rw (c.as_slice.ensures.value, c.in-Ok.ensures) at c.in-Ok-satisfies_each.ensures.answers)
 
 pub returns-clause-refused : goal.returns-clause-refused
-returns-clause-refused c = inr (record {
-  file = c.in_ok-read.read.formula;
-  file_read = c.in_ok-read.ensures.formula;
-  input = c.in_ok-read.read.automaton;
-  input_read = c.in_ok-read.ensures.automaton;
-  holds = subst (IsAboutNeither (IsSatisfactionRefusal c.in_ok-read.read.automaton c.in_ok-read.read.formula)) (sym c.from.ensures) (refl, c.in-Err.ensures.refused);
-})
+returns-clause-refused c =
+    subst (IsSatisfiesRefused c.args.formula.now c.args.text.now) (sym c.unnumbered.ensures)
+    (refused_alone c.args.formula.now c.args.text.now c.args.explain c.in-Err.refused
+    (rw (c.as_slice.ensures.value, c.in-Ok.ensures) at c.in-Err.ensures.refused))

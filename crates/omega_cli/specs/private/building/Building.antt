@@ -5,7 +5,7 @@ use Rattle.clap.specs.Words.{App, Rule, Shape, Text, with_rule, with_subcommand}
 use Rattle.omega_cli.specs.Program.{accepts, canon, check, complement, contained, draw, empty, equal}
 use Rattle.omega_cli.specs.Program.{flag, game, join, lettered, ltl, meet, named, operand, optional}
 use Rattle.omega_cli.specs.Program.{optional_as, optional_lettered, realize, required, required_as}
-use Rattle.omega_cli.specs.Program.{required_lettered, satisfies, show, solve, trim, verify}
+use Rattle.omega_cli.specs.Program.{required_repeated, satisfies, show, solve, trim, verify}
 use Rattle.omega_cli.specs.declared.options.OptionHelp.{OptionHelp}
 use Rattle.omega_cli.specs.declared.options.Value.{Value}
 use Rattle.omega_cli.specs.declared.options.Value.TheVariants as value
@@ -21,7 +21,7 @@ rule_by (value.Optional shown) name = optional name
 rule_by (value.OptionalLettered letter shown) name = optional_lettered letter name
 rule_by (value.OptionalAs long shown) name = optional_as long.now name
 rule_by (value.Required shown) name = required name
-rule_by (value.RequiredLettered letter shown) name = required_lettered letter name
+rule_by (value.RequiredRepeated letter shown) name = required_repeated letter name
 rule_by (value.RequiredAs long shown) name = required_as long.now name
 rule_by (value.Operand shown) name = operand name
 

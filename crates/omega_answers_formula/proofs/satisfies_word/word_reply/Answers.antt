@@ -2,7 +2,7 @@
 use Rattle.std.proofs.lemmas.Result.{IfErr-weaker, IfOk-weaker}
 use Rattle.omega_io.proofs.Told.{told}
 use Rattle.omega_ltl_satisfaction.specs.WordRefusing.{oversized}
-use Rattle.omega_answers_formula.proofs.formula_and_word.word_reply.Goals as goal
+use Rattle.omega_answers_formula.proofs.satisfies_word.word_reply.Goals as goal
 
 pub returns-clause-verdict : goal.returns-clause-verdict
 returns-clause-verdict c =

@@ -1,0 +1,33 @@
+-- the automaton's text is refused, or the formulas are answered for the automaton, or one of them is refused
+use Rattle.std.proofs.lemmas.Result.{IfErr-weaker, IfOk-weaker}
+use Rattle.omega_hoa.specs.Alone.{IsAutomatonRefusal, IsAutomatonText}
+use Rattle.omega_ltl_satisfaction.specs.Refusing.{IsSatisfactionRefusal}
+use Rattle.omega_answers.specs.TwoTexts.{OfBoth}
+use Rattle.omega_answers_formula.specs.InTurn.{IsFirstRefused, IsFirstUnread, IsInputUnread}
+use Rattle.omega_answers_formula.specs.Formula.{IsFormulaOfText}
+use Rattle.std.specs.List.{AllZip}
+use Rattle.omega_answers_formula.specs.Satisfies.{IsSatisfactionVerdict}
+use Rattle.omega_answers_formula.specs.declared.refused_formulas.About.TheVariants.{Input}
+use Rattle.omega_answers_formula.proofs.InTurn.{refused_asking, refused_of}
+use Rattle.omega_answers_formula.proofs.satisfies.answers_for_text.Goals as goal
+
+pub returns-in-Ok-clause-answers : goal.returns-in-Ok-clause-answers
+returns-in-Ok-clause-answers c =
+    IfOk-weaker c.answers_in_turn.result _ _ (λ made answered. (c.in-Ok.automaton, c.in-Ok.ensures.automaton, answered)) c.answers_in_turn.ensures.answered
+
+pub returns-in-Ok-clause-refused : goal.returns-in-Ok-clause-refused
+returns-in-Ok-clause-refused c = λ texts read.
+    IfErr-weaker c.answers_in_turn.result _ _
+    (λ refused is. refused_asking (IsAutomatonText c.args.text.now) (IsAutomatonRefusal c.args.text.now)
+    (λ a formula. IsSatisfactionVerdict formula a c.args.explain) IsSatisfactionRefusal texts
+    c.args.formulas.now c.in-Ok.automaton read c.in-Ok.ensures.automaton refused is)
+    c.answers_in_turn.ensures.refused
+
+pub returns-in-Err-clause-refused : goal.returns-in-Err-clause-refused
+returns-in-Err-clause-refused c = λ texts read.
+    refused_of (IsFirstUnread texts)
+    (λ number refusal. OfBoth (AllZip IsFormulaOfText texts) (IsAutomatonText c.args.text.now)
+    (λ formulas a. IsFirstRefused (λ formula. IsSatisfactionVerdict formula a c.args.explain) (IsSatisfactionRefusal a) formulas number refusal))
+    (IsInputUnread (IsAutomatonRefusal c.args.text.now) texts) Input (IsAutomatonRefusal c.args.text.now)
+    (λ refusal is. record { formulas = c.args.formulas.now; read = read; refused = is }) c.in-Err.refusal c.in-Err.ensures.refused
+    c.of.result c.of.ensures

@@ -1,0 +1,26 @@
+-- the formulas are read and answered for the automaton, or one of their texts is refused
+use Rattle.std.proofs.lemmas.Result.{IfOk-weaker}
+use Rattle.omega_hoa.specs.Alone.{IsAutomatonRefusal, IsAutomatonText}
+use Rattle.omega_ltl_satisfaction.specs.Refusing.{IsSatisfactionRefusal}
+use Rattle.omega_answers_formula.specs.Formula.{IsFormulaOfText}
+use Rattle.omega_answers_formula.specs.Satisfies.{IsSatisfactionVerdict, IsSatisfiesAnswer}
+use Rattle.omega_answers_formula.proofs.InTurn.{answered_texts, refused_reading}
+use Rattle.omega_answers_formula.proofs.satisfies.satisfies_each.Goals as goal
+
+pub returns-in-Ok-clause-answers : goal.returns-in-Ok-clause-answers
+returns-in-Ok-clause-answers c =
+    IfOk-weaker c.answers_for_text.result _ _
+    (λ made (a, of_text, answered). answered_texts IsFormulaOfText (λ formula. IsSatisfactionVerdict formula a c.args.explain)
+    (λ formula. IsSatisfiesAnswer formula c.args.text.now c.args.explain)
+    (λ text formula exit output reads verdict. record { file = formula; file_read = reads; input = a; input_read = of_text; holds = verdict })
+    c.args.formulas.now c.in-Ok.read.items made.exit made.text.items c.in-Ok.ensures.read (rw c.as_slice.ensures.value at answered))
+    c.answers_for_text.ensures.answers
+
+pub returns-in-Ok-clause-refused : goal.returns-in-Ok-clause-refused
+returns-in-Ok-clause-refused c =
+    c.answers_for_text.ensures.refused c.args.formulas.now (rw c.as_slice.ensures.value c.in-Ok.ensures.read)
+
+pub returns-in-Err-clause-refused : goal.returns-in-Err-clause-refused
+returns-in-Err-clause-refused c =
+    refused_reading (IsAutomatonText c.args.text.now) (IsAutomatonRefusal c.args.text.now) (λ a formula. IsSatisfactionVerdict formula a c.args.explain)
+    IsSatisfactionRefusal c.args.formulas.now c.in-Err.refused c.in-Err.ensures.refused

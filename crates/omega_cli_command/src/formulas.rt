@@ -1,0 +1,14 @@
+/// A command that asks formulas of the text of the input, one after the other.
+#[derive(Clone, Copy, Debug)]
+pub enum Formulas {
+    /// Says whether each word that the automaton of the input accepts satisfies the formula.
+    Satisfies {
+        /// Whether a `no` is explained.
+        explain: bool,
+    },
+    /// Says whether each word that the input admits, which is the text of a word, satisfies the formula.
+    SatisfiesWord {
+        /// Whether a `no` is explained.
+        explain: bool,
+    },
+}

@@ -1,0 +1,8 @@
+-- `answer_formulas`: the answers are those of the command.
+use Rattle.omega_run.proofs.formulas.answer_formulas.Goals as goal
+
+pub returns-in-Satisfies-clause-answered : goal.returns-in-Satisfies-clause-answered
+returns-in-Satisfies-clause-answered c = rw c.in-Satisfies.is c.satisfies_each.ensures.answers
+
+pub returns-in-SatisfiesWord-clause-answered : goal.returns-in-SatisfiesWord-clause-answered
+returns-in-SatisfiesWord-clause-answered c = rw c.in-SatisfiesWord.is c.satisfies_word_each.ensures.answers
