@@ -1,0 +1,10 @@
+-- Circuits: what contracts cite.
+pub use Rattle.omega_text.specs.NamedWords
+pub mod Limits
+pub mod Symbols
+pub mod FaultNumbers
+pub mod Circuit
+pub mod Rounds
+pub mod Faults
+pub mod Laws
+pub mod private

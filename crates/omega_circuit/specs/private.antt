@@ -1,0 +1,4 @@
+-- What only private contracts cite.
+pub mod Numbers
+pub mod Orders
+pub mod Steps
