@@ -1,0 +1,2 @@
+-- Products of deterministic parity automata: what contracts cite.
+pub mod Limits
