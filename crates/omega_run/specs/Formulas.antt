@@ -1,4 +1,5 @@
--- What each command makes of formulas and of the text of the input: its answer, and which of the texts a refusal is about.
+-- What each command makes of formulas and of the text of the input: its answer, and which of the texts a refusal is
+-- about.
 use Rattle.std.specs.Prelude.{◌≡◌, List, Result, Ok, Err, ℕ}
 use Rattle.omega_cli_command.specs.declared.formulas.Formulas.{Formulas}
 use Rattle.omega_cli_command.specs.declared.formulas.Formulas.TheVariants.{Satisfies, SatisfiesWord}
