@@ -1,7 +1,7 @@
 -- What is given, or refused for want of memory, is a call's outcome where it is right.
 use Rattle.std.proofs.Common.{◌≡◌, inl, inr, ℕ, List, refl, sym, subst}
 use Rattle.omega_text.specs.declared.refusal.Refusal.{Refusal}
-use Rattle.omega_text.specs.declared.refusal.Refusal.TheVariants.{Automaton, Game, Io, Memory, Task, Text}
+use Rattle.omega_text.specs.declared.refusal.Refusal.TheVariants.{Automaton, Circuit, Game, Io, Memory, Task, Text}
 use Rattle.omega_text.specs.Cases.{or_memory}
 use Rattle.omega_io.specs.Refused.{about_none}
 use Rattle.omega_io.specs.declared.exit.Exit.{Exit}
@@ -39,6 +39,7 @@ module _ (right : Exit → List ℕ → Type 0) (refuses : Refused → Type 0) (
 pub one_refused : (refuses : Refusal → Type 0) (refusal : Refusal) → or_memory refuses refusal → IsOneRefused refuses (about_input refusal)
 one_refused refuses (Text fault) r = r
 one_refused refuses (Game fault) r = r
+one_refused refuses (Circuit fault) r = r
 one_refused refuses (Automaton fault) r = r
 one_refused refuses (Task fault) r = r
 one_refused refuses Memory r = refl

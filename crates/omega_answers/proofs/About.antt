@@ -2,7 +2,7 @@
 use Rattle.std.proofs.Common.{◌≡◌, Some, refl, sym, subst}
 use Rattle.omega_text.specs.Cases.{or_memory}
 use Rattle.omega_text.specs.declared.refusal.Refusal.{Refusal}
-use Rattle.omega_text.specs.declared.refusal.Refusal.TheVariants.{Automaton, Game, Io, Memory, Task, Text}
+use Rattle.omega_text.specs.declared.refusal.Refusal.TheVariants.{Automaton, Circuit, Game, Io, Memory, Task, Text}
 use Rattle.omega_io.specs.Refused.{IsAbout, IsRefusedOf, about}
 use Rattle.omega_io.specs.declared.refused.Refused.{Refused}
 use Rattle.omega_io.specs.declared.refused.Which.{Which}
@@ -26,6 +26,7 @@ module _ (file input : Refusal → Type 0) where
       go : (refusal : Refusal) → or_memory own refusal → IsRefusedOf file input (about text refusal)
       go (Text fault) h = named text (Text fault) (then (Text fault) h)
       go (Game fault) h = named text (Game fault) (then (Game fault) h)
+      go (Circuit fault) h = named text (Circuit fault) (then (Circuit fault) h)
       go (Automaton fault) h = named text (Automaton fault) (then (Automaton fault) h)
       go (Task fault) h = named text (Task fault) (then (Task fault) h)
       go Memory h = refl

@@ -1,8 +1,8 @@
 -- A refusal that is told of a text is for a choice.
 use Rattle.std.proofs.Common.{◌≡◌, ℕ, Option, None, Some, refl, sym, ap, ◌∙◌}
 use Rattle.omega_text.specs.declared.refusal.Refusal.{Refusal}
-use Rattle.omega_text.specs.declared.refusal.Refusal.TheVariants.{Automaton, Game, Io, Memory, Task, Text}
-use Rattle.omega_text.specs.declared.refusal.task.TaskFault.TheVariants.{BadSolution, Budget, Controllable, NotDeterministic, NotParity, TooLarge, TooManyPropositions, TooWide, UniversalBranch, UnknownNode}
+use Rattle.omega_text.specs.declared.refusal.Refusal.TheVariants.{Automaton, Circuit, Game, Io, Memory, Task, Text}
+use Rattle.omega_text.specs.declared.refusal.task.TaskFault.TheVariants.{BadSolution, Budget, Controllable, NotDeterministic, NotParity, TooLarge, TooManyPropositions, TooWide, UniversalBranch, Unjudged, UnknownNode}
 use Rattle.omega_io.specs.declared.refused.Refused.{Refused}
 use Rattle.omega_io.specs.declared.refused.Which.{Which}
 use Rattle.omega_answers.specs.Choice.{refused_for}
@@ -16,6 +16,7 @@ module _ (text which : Which) where
   about (Task BadSolution) of_text = absurd (none_some which of_text)
   about (Task Budget) of_text = absurd (none_some which of_text)
   about (Task Controllable) of_text = absurd (none_some which of_text)
+  about (Task Unjudged) of_text = absurd (none_some which of_text)
   about (Task NotParity) of_text = absurd (none_some which of_text)
   about (Task TooLarge) of_text = absurd (none_some which of_text)
   about (Task TooManyPropositions) of_text = absurd (none_some which of_text)
@@ -24,6 +25,7 @@ module _ (text which : Which) where
   about (Task UnknownNode) of_text = absurd (none_some which of_text)
   about (Text fault) of_text = absurd (none_some which of_text)
   about (Game fault) of_text = absurd (none_some which of_text)
+  about (Circuit fault) of_text = absurd (none_some which of_text)
   about (Automaton fault) of_text = absurd (none_some which of_text)
   about Memory of_text = absurd (none_some which of_text)
   about Io of_text = absurd (none_some which of_text)
@@ -38,6 +40,7 @@ same_refusal text (Task (NotDeterministic state)) = refl
 same_refusal text (Task BadSolution) = refl
 same_refusal text (Task Budget) = refl
 same_refusal text (Task Controllable) = refl
+same_refusal text (Task Unjudged) = refl
 same_refusal text (Task NotParity) = refl
 same_refusal text (Task TooLarge) = refl
 same_refusal text (Task TooManyPropositions) = refl
@@ -46,6 +49,7 @@ same_refusal text (Task UniversalBranch) = refl
 same_refusal text (Task UnknownNode) = refl
 same_refusal text (Text fault) = refl
 same_refusal text (Game fault) = refl
+same_refusal text (Circuit fault) = refl
 same_refusal text (Automaton fault) = refl
 same_refusal text Memory = refl
 same_refusal text Io = refl

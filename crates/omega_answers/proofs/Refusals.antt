@@ -2,7 +2,7 @@
 use Rattle.std.proofs.Common.{inl, inr, ℕ, List}
 use Rattle.omega_text.specs.Cases.{or_memory}
 use Rattle.omega_text.specs.declared.refusal.Refusal.{Refusal}
-use Rattle.omega_text.specs.declared.refusal.Refusal.TheVariants.{Automaton, Game, Io, Memory, Task, Text}
+use Rattle.omega_text.specs.declared.refusal.Refusal.TheVariants.{Automaton, Circuit, Game, Io, Memory, Task, Text}
 use Rattle.omega_text.specs.declared.refusal.task.TaskFault.TheVariants.{Budget}
 use Rattle.omega_hoa.specs.Alone.{IsAutomatonRefusal}
 
@@ -10,6 +10,7 @@ use Rattle.omega_hoa.specs.Alone.{IsAutomatonRefusal}
 pub or_memory_of : (own : Refusal → Type 0) → (refusal : Refusal) → own refusal → or_memory own refusal
 or_memory_of own (Text fault) is = is
 or_memory_of own (Game fault) is = is
+or_memory_of own (Circuit fault) is = is
 or_memory_of own (Automaton fault) is = is
 or_memory_of own (Task fault) is = is
 or_memory_of own Memory is = tt
@@ -20,6 +21,7 @@ pub memory_or : (own other : Refusal → Type 0) → ((refusal : Refusal) → ow
     → or_memory own refusal → or_memory other refusal
 memory_or own other then (Text fault) is = then (Text fault) is
 memory_or own other then (Game fault) is = then (Game fault) is
+memory_or own other then (Circuit fault) is = then (Circuit fault) is
 memory_or own other then (Automaton fault) is = then (Automaton fault) is
 memory_or own other then (Task fault) is = then (Task fault) is
 memory_or own other then Memory is = is

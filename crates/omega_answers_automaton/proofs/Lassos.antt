@@ -1,7 +1,7 @@
 -- Which text a refusal is about, that of an automaton or that of a lasso.
 use Rattle.std.proofs.Common.{◌≡◌, inl, inr, ℕ, List, refl, sym, subst}
 use Rattle.omega_text.specs.declared.refusal.Refusal.{Refusal}
-use Rattle.omega_text.specs.declared.refusal.Refusal.TheVariants.{Automaton, Game, Io, Memory, Task, Text}
+use Rattle.omega_text.specs.declared.refusal.Refusal.TheVariants.{Automaton, Circuit, Game, Io, Memory, Task, Text}
 use Rattle.omega_text.specs.declared.refusal.task.TaskFault.TheVariants.{UniversalBranch}
 use Rattle.omega_hoa_automaton.specs.Automaton.{Description}
 use Rattle.omega_io.specs.Refused.{about}
@@ -31,5 +31,6 @@ judge_refused file input automaton lasso file_read input_read refusal refused re
     go Memory h = inl refl
     go (Text fault) h = absurd h
     go (Game fault) h = absurd h
+    go (Circuit fault) h = absurd h
     go (Automaton fault) h = absurd h
     go Io h = absurd h

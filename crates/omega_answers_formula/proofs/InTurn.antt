@@ -6,7 +6,7 @@ use Rattle.std.proofs.lemmas.Grind.{flat_map-append}
 use Rattle.std.proofs.lemmas.Slice.Zip.{all_zipped_more}
 use Rattle.omega_text.specs.Cases.{or_memory}
 use Rattle.omega_text.specs.declared.refusal.Refusal.{Refusal}
-use Rattle.omega_text.specs.declared.refusal.Refusal.TheVariants.{Automaton, Game, Io, Memory, Task, Text}
+use Rattle.omega_text.specs.declared.refusal.Refusal.TheVariants.{Automaton, Circuit, Game, Io, Memory, Task, Text}
 use Rattle.omega_io.specs.declared.exit.Exit.{Exit}
 use Rattle.omega_io.specs.declared.exit.Exit.TheVariants.{Done, No}
 use Rattle.omega_ltl_formula.specs.Table.{NumberedFormula}
@@ -132,6 +132,7 @@ module _ (text question : ℕ → Refusal → Type 0) (input : Refusal → Type 
       go (Text fault) is = named about (Text fault) (then (Text fault) is)
       go (Game fault) is = named about (Game fault) (then (Game fault) is)
       go (Automaton fault) is = named about (Automaton fault) (then (Automaton fault) is)
+      go (Circuit fault) is = named about (Circuit fault) (then (Circuit fault) is)
       go (Task fault) is = named about (Task fault) (then (Task fault) is)
       go Memory is = refl
       go Io is = named about Io (then Io is)

@@ -4,7 +4,7 @@ use Rattle.std.specs.Prelude.{codes}
 use Rattle.std.specs.List.{Contains}
 use Rattle.omega_text.specs.Limits.{most_text}
 use Rattle.omega_text.specs.declared.refusal.Refusal.{Refusal}
-use Rattle.omega_text.specs.declared.refusal.Refusal.TheVariants.{Automaton, Game, Io, Memory, Task, Text}
+use Rattle.omega_text.specs.declared.refusal.Refusal.TheVariants.{Automaton, Circuit, Game, Io, Memory, Task, Text}
 use Rattle.omega_game.specs.declared.lasso.Lasso.{Lasso}
 use Rattle.omega_game_values.specs.declared.player.Player.{Player}
 use Rattle.omega_game.specs.Counterexample.{IsCounterexample}
@@ -97,6 +97,7 @@ judged-not_refused text (Some identifier) nodes (Task fault) games refused judge
 judged-not_refused text (Some identifier) nodes (Text fault) games refused judged h = refused text judged.game (Text fault) judged.read h
 judged-not_refused text (Some identifier) nodes (Game fault) games refused judged h = refused text judged.game (Game fault) judged.read h
 judged-not_refused text (Some identifier) nodes (Automaton fault) games refused judged h = refused text judged.game (Automaton fault) judged.read h
+judged-not_refused text (Some identifier) nodes (Circuit fault) games refused judged h = refused text judged.game (Circuit fault) judged.read h
 judged-not_refused text (Some identifier) nodes Memory games refused judged h = refused text judged.game Memory judged.read h
 judged-not_refused text (Some identifier) nodes Io games refused judged h = refused text judged.game Io judged.read h
 

@@ -2,7 +2,7 @@
 use Rattle.std.proofs.Common.{List, Option, None, Some, ℕ, refl}
 use Rattle.omega_text.specs.Cases.{or_memory}
 use Rattle.omega_text.specs.declared.refusal.Refusal.{Refusal}
-use Rattle.omega_text.specs.declared.refusal.Refusal.TheVariants.{Automaton, Game, Io, Memory, Task, Text}
+use Rattle.omega_text.specs.declared.refusal.Refusal.TheVariants.{Automaton, Circuit, Game, Io, Memory, Task, Text}
 use Rattle.omega_io.specs.Refused.{IsAbout}
 use Rattle.omega_io.specs.declared.refused.Which.{Which}
 use Rattle.omega_io.specs.declared.refused.Which.TheVariants.{File, Input}
@@ -41,6 +41,7 @@ unknown_text_or_memory text game from (Task fault) read h = unknown_refused_or_m
 unknown_text_or_memory text game from (Text fault) read h = unknown_refused_or_memory text game from (Text fault) read h
 unknown_text_or_memory text game from (Game fault) read h = unknown_refused_or_memory text game from (Game fault) read h
 unknown_text_or_memory text game from (Automaton fault) read h = unknown_refused_or_memory text game from (Automaton fault) read h
+unknown_text_or_memory text game from (Circuit fault) read h = unknown_refused_or_memory text game from (Circuit fault) read h
 unknown_text_or_memory text game from Io read h = unknown_refused_or_memory text game from Io read h
 
 -- the part that the node of an identifier reaches has that node

@@ -3,7 +3,7 @@ use Rattle.std.proofs.Common.{◌≡◌, ℕ, Option, None, ◌<◌, List, Bool,
 use Rattle.std.proofs.lemmas.List.{length-map}
 use Rattle.omega_text.specs.Cases.{never, or_task}
 use Rattle.omega_text.specs.declared.refusal.Refusal.{Refusal}
-use Rattle.omega_text.specs.declared.refusal.Refusal.TheVariants.{Automaton, Game, Io, Memory, Task, Text}
+use Rattle.omega_text.specs.declared.refusal.Refusal.TheVariants.{Automaton, Circuit, Game, Io, Memory, Task, Text}
 use Rattle.omega_io.specs.Answer.{IsReply}
 use Rattle.omega_io.specs.Refused.{IsRefusedOf, about}
 use Rattle.omega_io.specs.declared.answer.Answer.TheVariants.{No}
@@ -74,6 +74,7 @@ unsolved-text game_text from text game (Task fault) judged unsolved =
 unsolved-text game_text from text game (Text fault) judged unsolved = absurd unsolved
 unsolved-text game_text from text game (Game fault) judged unsolved = absurd unsolved
 unsolved-text game_text from text game (Automaton fault) judged unsolved = absurd unsolved
+unsolved-text game_text from text game (Circuit fault) judged unsolved = absurd unsolved
 unsolved-text game_text from text game Memory judged unsolved = absurd unsolved
 unsolved-text game_text from text game Io judged unsolved = absurd unsolved
 
@@ -85,5 +86,6 @@ unsolved-about game text winners read (Task fault) refused input = record { winn
 unsolved-about game text winners read (Text fault) refused input = absurd refused
 unsolved-about game text winners read (Game fault) refused input = absurd refused
 unsolved-about game text winners read (Automaton fault) refused input = absurd refused
+unsolved-about game text winners read (Circuit fault) refused input = absurd refused
 unsolved-about game text winners read Memory refused input = refl
 unsolved-about game text winners read Io refused input = absurd refused

@@ -2,7 +2,7 @@
 use Rattle.std.proofs.Common.{List, ℕ}
 use Rattle.omega_text.specs.Cases.{or_memory}
 use Rattle.omega_text.specs.declared.refusal.Refusal.{Refusal}
-use Rattle.omega_text.specs.declared.refusal.Refusal.TheVariants.{Automaton, Game, Io, Memory, Task, Text}
+use Rattle.omega_text.specs.declared.refusal.Refusal.TheVariants.{Automaton, Circuit, Game, Io, Memory, Task, Text}
 use Rattle.omega_game_values.specs.Game.{Node}
 use Rattle.omega_pg.specs.game.Text.{IsGameText}
 use Rattle.omega_answers_game.specs.Part.{IsPartTextRefusal}
@@ -16,4 +16,5 @@ part-refused text game identifier Memory read h = tt
 part-refused text game identifier (Text fault) read h = absurd h
 part-refused text game identifier (Game fault) read h = absurd h
 part-refused text game identifier (Automaton fault) read h = absurd h
+part-refused text game identifier (Circuit fault) read h = absurd h
 part-refused text game identifier Io read h = absurd h

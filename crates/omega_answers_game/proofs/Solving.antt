@@ -3,8 +3,8 @@ use Rattle.std.proofs.Common.{◌≡◌, ℕ, ◌+◌, ◌<◌, length, Bool, tr
 use Rattle.std.specs.List.{Contains, slice_get}
 use Rattle.std.proofs.lemmas.Option.{get_or_from_slice_get, slice_get_within}
 use Rattle.omega_text.specs.declared.refusal.Refusal.{Refusal}
-use Rattle.omega_text.specs.declared.refusal.Refusal.TheVariants.{Automaton, Game, Io, Memory, Task, Text}
-use Rattle.omega_text.specs.declared.refusal.task.TaskFault.TheVariants.{BadSolution, Budget, Controllable, NotDeterministic, NotParity, TooLarge, TooManyPropositions, TooWide, UniversalBranch, UnknownNode}
+use Rattle.omega_text.specs.declared.refusal.Refusal.TheVariants.{Automaton, Circuit, Game, Io, Memory, Task, Text}
+use Rattle.omega_text.specs.declared.refusal.task.TaskFault.TheVariants.{BadSolution, Budget, Controllable, NotDeterministic, NotParity, TooLarge, TooManyPropositions, TooWide, UniversalBranch, Unjudged, UnknownNode}
 use Rattle.omega_game_values.specs.declared.player.Player.{Player}
 use Rattle.omega_game_values.specs.Game.{Node, priorities}
 use Rattle.omega_measure.specs.Table.{is_too_wide}
@@ -82,12 +82,14 @@ refused-solving nodes asked player budget (Task TooManyPropositions) narrow solv
 refused-solving nodes asked player budget (Task UniversalBranch) narrow solved_for h = absurd h
 refused-solving nodes asked player budget (Task UnknownNode) narrow solved_for h = absurd h
 refused-solving nodes asked player budget (Task Controllable) narrow solved_for h = absurd h
+refused-solving nodes asked player budget (Task Unjudged) narrow solved_for h = absurd h
 refused-solving nodes asked player budget (Task TooLarge) narrow solved_for h = absurd h
 refused-solving nodes asked player budget (Task (NotDeterministic state)) narrow solved_for h = absurd h
 refused-solving nodes asked player budget Memory narrow solved_for h = tt
 refused-solving nodes asked player budget (Text fault) narrow solved_for h = h
 refused-solving nodes asked player budget (Game fault) narrow solved_for h = h
 refused-solving nodes asked player budget (Automaton fault) narrow solved_for h = h
+refused-solving nodes asked player budget (Circuit fault) narrow solved_for h = h
 refused-solving nodes asked player budget Io narrow solved_for h = h
 
 -- what refuses taking the part of a node refuses the solving from it
@@ -98,6 +100,7 @@ refused-unknown game asked identifier budget Memory h = tt
 refused-unknown game asked identifier budget (Text fault) h = h
 refused-unknown game asked identifier budget (Game fault) h = h
 refused-unknown game asked identifier budget (Automaton fault) h = h
+refused-unknown game asked identifier budget (Circuit fault) h = h
 refused-unknown game asked identifier budget Io h = h
 
 -- what refuses the part of a node refuses the solving from it
@@ -106,6 +109,7 @@ pub refused-part : (game : List Node) (asked : Asked) (identifier budget : ℕ) 
     → IsSolveGameRefusal game asked (Some identifier) budget refusal
 refused-part game asked identifier budget part (Task UnknownNode) part_of h = absurd h
 refused-part game asked identifier budget part (Task Controllable) part_of h = absurd h
+refused-part game asked identifier budget part (Task Unjudged) part_of h = absurd h
 refused-part game asked identifier budget part (Task TooWide) part_of h = record { part = part; part_of = part_of; fault_there = h }
 refused-part game asked identifier budget part (Task Budget) part_of h = record { part = part; part_of = part_of; fault_there = h }
 refused-part game asked identifier budget part (Task BadSolution) part_of h = absurd h
@@ -118,6 +122,7 @@ refused-part game asked identifier budget part Memory part_of h = tt
 refused-part game asked identifier budget part (Text fault) part_of h = h
 refused-part game asked identifier budget part (Game fault) part_of h = h
 refused-part game asked identifier budget part (Automaton fault) part_of h = h
+refused-part game asked identifier budget part (Circuit fault) part_of h = h
 refused-part game asked identifier budget part Io part_of h = h
 
 -- a game that is too wide refuses the solving

@@ -2,7 +2,7 @@
 use Rattle.std.proofs.Common.{◌≡◌, ℕ, ◌+◌, ◌≤◌, None, List, refl, sym, subst, ◌∙◌, arith}
 use Rattle.std.proofs.lemmas.Bool.{false≢true}
 use Rattle.omega_text.specs.declared.refusal.Refusal.{Refusal}
-use Rattle.omega_text.specs.declared.refusal.Refusal.TheVariants.{Automaton, Game, Io, Memory, Task, Text}
+use Rattle.omega_text.specs.declared.refusal.Refusal.TheVariants.{Automaton, Circuit, Game, Io, Memory, Task, Text}
 use Rattle.omega_text.specs.declared.refusal.task.TaskFault.TheVariants.{TooWide}
 use Rattle.omega_game_values.specs.declared.player.Player.TheVariants.{One, Zero}
 use Rattle.omega_game_values.specs.declared.solution.Solution.{Solution}
@@ -39,6 +39,7 @@ memory_alone nodes Memory narrow refused = refl
 memory_alone nodes (Text fault) narrow refused = absurd (refused.1)
 memory_alone nodes (Game fault) narrow refused = absurd (refused.1)
 memory_alone nodes (Automaton fault) narrow refused = absurd (refused.1)
+memory_alone nodes (Circuit fault) narrow refused = absurd (refused.1)
 memory_alone nodes Io narrow refused = absurd (refused.1)
 
 -- for either player
@@ -66,4 +67,5 @@ search_refused nodes budget Memory h = tt
 search_refused nodes budget (Text fault) h = h
 search_refused nodes budget (Game fault) h = h
 search_refused nodes budget (Automaton fault) h = h
+search_refused nodes budget (Circuit fault) h = h
 search_refused nodes budget Io h = h

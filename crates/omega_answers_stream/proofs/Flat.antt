@@ -4,7 +4,7 @@ use Rattle.std.specs.Prelude.{MatchOption}
 use Rattle.omega_text.specs.Cases.{or_io, or_memory}
 use Rattle.omega_text.specs.Limits.{most_text}
 use Rattle.omega_text.specs.declared.refusal.Refusal.{Refusal}
-use Rattle.omega_text.specs.declared.refusal.Refusal.TheVariants.{Automaton, Game, Io, Memory, Task, Text}
+use Rattle.omega_text.specs.declared.refusal.Refusal.TheVariants.{Automaton, Circuit, Game, Io, Memory, Task, Text}
 use Rattle.omega_hoa.specs.declared.item.Item.{Item}
 use Rattle.omega_io.specs.Reading.{ReadsText, ReadsWhole}
 use Rattle.omega_answers_stream.specs.Answer.{Answer}
@@ -24,6 +24,7 @@ whole_text before after Holds Says short says reads = record {
 or_none : (Holds : Refusal → Type 0) (refusal : Refusal) → Holds refusal → or_memory (or_io Holds) refusal
 or_none Holds (Text fault) holds = holds
 or_none Holds (Game fault) holds = holds
+or_none Holds (Circuit fault) holds = holds
 or_none Holds (Automaton fault) holds = holds
 or_none Holds (Task fault) holds = holds
 or_none Holds Memory holds = tt

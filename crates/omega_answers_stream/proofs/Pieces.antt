@@ -6,7 +6,7 @@ use Rattle.std.specs.Prelude.{IfErr, Result, Err, Ok}
 use Rattle.omega_text.specs.Cases.{or_io, or_memory}
 use Rattle.omega_text.specs.Limits.{most_text}
 use Rattle.omega_text.specs.declared.refusal.Refusal.{Refusal}
-use Rattle.omega_text.specs.declared.refusal.Refusal.TheVariants.{Automaton, Game, Io, Memory, Task, Text}
+use Rattle.omega_text.specs.declared.refusal.Refusal.TheVariants.{Automaton, Circuit, Game, Io, Memory, Task, Text}
 use Rattle.omega_io.specs.Failures.{failures_of}
 use Rattle.omega_io.specs.Reading.{IsRead, ReadsText}
 use Rattle.omega_hoa.specs.Stream.{IsStreamRefusal}
@@ -70,6 +70,7 @@ pub none_failed : {A : Type 0} (result : Result A Refusal) (source : List ℕ) �
 none_failed (Ok value) source refused = refl
 none_failed (Err (Text fault)) source refused = refl
 none_failed (Err (Game fault)) source refused = refl
+none_failed (Err (Circuit fault)) source refused = refl
 none_failed (Err (Automaton fault)) source refused = refl
 none_failed (Err (Task fault)) source refused = refl
 none_failed (Err Memory) source refused = refl
@@ -81,6 +82,7 @@ pub reads_refused : {A : Type 0} (result : Result A Refusal) (before after : Opt
 reads_refused (Ok value) before after source read refused = tt
 reads_refused (Err (Text fault)) before after source read refused = record { text = source; read = read; holds = refused }
 reads_refused (Err (Game fault)) before after source read refused = record { text = source; read = read; holds = refused }
+reads_refused (Err (Circuit fault)) before after source read refused = record { text = source; read = read; holds = refused }
 reads_refused (Err (Automaton fault)) before after source read refused = record { text = source; read = read; holds = refused }
 reads_refused (Err (Task fault)) before after source read refused = record { text = source; read = read; holds = refused }
 reads_refused (Err Memory) before after source read refused = tt
@@ -97,6 +99,7 @@ at_text (Err refusal) Holds asking seen short follows says = says seen short fol
 pub other_refusal : (Others : Refusal → Type 0) (refusal : Refusal) → or_memory Others refusal → (refusal ≡ Memory → ⊥) → Others refusal
 other_refusal Others (Text fault) refused other = refused
 other_refusal Others (Game fault) refused other = refused
+other_refusal Others (Circuit fault) refused other = refused
 other_refusal Others (Automaton fault) refused other = refused
 other_refusal Others (Task fault) refused other = refused
 other_refusal Others Memory refused other = absurd (other refl)

@@ -2,7 +2,7 @@
 use Rattle.std.proofs.Common.{◌≡◌, inl, inr, ℕ, Bool, List, Option, refl, sym, subst}
 use Rattle.omega_text.specs.Cases.{or_io, or_memory}
 use Rattle.omega_text.specs.declared.refusal.Refusal.{Refusal}
-use Rattle.omega_text.specs.declared.refusal.Refusal.TheVariants.{Automaton, Game, Io, Memory, Task, Text}
+use Rattle.omega_text.specs.declared.refusal.Refusal.TheVariants.{Automaton, Circuit, Game, Io, Memory, Task, Text}
 use Rattle.omega_hoa.specs.Alone.{IsAutomatonRefusal, IsAutomatonText}
 use Rattle.omega_hoa.specs.Stream.{IsStreamRefusal}
 use Rattle.omega_hoa_automaton.specs.Automaton.{Description}
@@ -22,6 +22,7 @@ module _ (file : List ℕ) where
       go : (refusal : Refusal) → or_memory (IsAutomatonRefusal file) refusal → IsFileOrStreamRefused file before after (about File refusal)
       go (Text fault) h = h
       go (Game fault) h = h
+      go (Circuit fault) h = h
       go (Automaton fault) h = h
       go (Task fault) h = h
       go Memory h = inl refl
@@ -45,6 +46,7 @@ module _ (file : List ℕ) where
           → IsFileOrStreamRefused file before after (about Input refusal)
       go (Text fault) h = of_stream (Text fault) h
       go (Game fault) h = of_stream (Game fault) h
+      go (Circuit fault) h = of_stream (Circuit fault) h
       go (Automaton fault) h = of_stream (Automaton fault) h
       go (Task fault) h = of_stream (Task fault) h
       go Memory h = inl refl

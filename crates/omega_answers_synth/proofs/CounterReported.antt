@@ -1,7 +1,7 @@
 -- How refusals of a specification and a counter-strategy are reported, and which text they are about.
 use Rattle.std.proofs.Common.{◌≡◌, inl, inr, List, ℕ, refl, sym, subst}
 use Rattle.omega_text.specs.declared.refusal.Refusal.{Refusal}
-use Rattle.omega_text.specs.declared.refusal.Refusal.TheVariants.{Automaton, Game, Io, Memory, Task, Text}
+use Rattle.omega_text.specs.declared.refusal.Refusal.TheVariants.{Automaton, Circuit, Game, Io, Memory, Task, Text}
 use Rattle.omega_hoa_automaton.specs.Automaton.{Description}
 use Rattle.omega_hoa_edges.specs.Determinism.{IsDeterministic}
 use Rattle.omega_synth_check.specs.CounterRefusing.{IsCounterRefusal, IsUndetermined, branches, two_edges, two_starts}
@@ -35,6 +35,7 @@ module _ (specification strategy : Description) where
         go Memory h = inl refl
         go (Text fault) h = inr (not_deterministic names (Text fault) system h)
         go (Game fault) h = inr (not_deterministic names (Game fault) system h)
+        go (Circuit fault) h = inr (not_deterministic names (Circuit fault) system h)
         go (Automaton fault) h = inr (not_deterministic names (Automaton fault) system h)
         go Io h = absurd (no_io specification h)
 

@@ -2,7 +2,7 @@
 use Rattle.std.proofs.Common.{◌≡◌, inl, inr, List, ℕ, true, Some, refl, sym, ap, subst}
 use Rattle.std.specs.Prelude.{Result, Ok, Err, IfErr, IsErrAnd}
 use Rattle.omega_text.specs.declared.refusal.Refusal.{Refusal}
-use Rattle.omega_text.specs.declared.refusal.Refusal.TheVariants.{Automaton, Game, Io, Memory, Task, Text}
+use Rattle.omega_text.specs.declared.refusal.Refusal.TheVariants.{Automaton, Circuit, Game, Io, Memory, Task, Text}
 use Rattle.omega_text.specs.declared.refusal.task.TaskFault.{TaskFault}
 use Rattle.omega_text.specs.declared.refusal.task.TaskFault.TheVariants.{Controllable}
 use Rattle.omega_hoa_automaton.specs.Automaton.{Description}
@@ -34,6 +34,7 @@ module _ (specification controller : Description) where
       go Memory h = inl refl
       go (Text fault) h = absurd h
       go (Game fault) h = absurd h
+      go (Circuit fault) h = absurd h
       go (Automaton fault) h = absurd h
       go Io h = absurd h
 
@@ -46,6 +47,7 @@ module _ (specification controller : Description) where
       go Memory h = inl refl
       go (Text fault) h = absurd h
       go (Game fault) h = absurd h
+      go (Circuit fault) h = absurd h
       go (Automaton fault) h = absurd h
       go Io h = absurd h
 

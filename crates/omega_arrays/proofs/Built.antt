@@ -11,7 +11,7 @@ use Rattle.std.proofs.lemmas.List.FromFn.{fill_by_all, get_or-map-range_with_len
 use Rattle.omega_text.specs.Limits.{most_number}
 use Rattle.omega_text.specs.Cases.{never, or_game, or_memory}
 use Rattle.omega_text.specs.declared.refusal.Refusal.{Refusal}
-use Rattle.omega_text.specs.declared.refusal.Refusal.TheVariants.{Automaton, Game, Io, Memory, Task, Text}
+use Rattle.omega_text.specs.declared.refusal.Refusal.TheVariants.{Automaton, Circuit, Game, Io, Memory, Task, Text}
 use Rattle.omega_game_values.specs.declared.node_spec.NodeSpec.{NodeSpec}
 use Rattle.omega_game_values.specs.declared.player.Player.{Player}
 use Rattle.omega_game_values.specs.Game.{HasEdge, IsGame, IsWithinLimits, Node, identifiers, no_node, node_at, successors_at}
@@ -194,6 +194,7 @@ pub only_memory : (specs : List NodeSpec) (a : GameArrays) (refusal : Refusal) �
 only_memory specs a (Game fault) none h = let e : None ≡ Some fault = sym none ∙ h in cc
 only_memory specs a (Text fault) none h = h
 only_memory specs a (Automaton fault) none h = h
+only_memory specs a (Circuit fault) none h = h
 only_memory specs a (Task fault) none h = h
 only_memory specs a Memory none h = h
 only_memory specs a Io none h = h

@@ -9,7 +9,7 @@ use Rattle.omega_text.specs.declared.refusal.task.TaskFault.TheVariants.{BadSolu
 use Rattle.omega_text.specs.declared.refusal.task.TaskFault.TheVariants.{NotDeterministic, NotParity}
 use Rattle.omega_text.specs.declared.refusal.task.TaskFault.TheVariants.{TooLarge, TooManyPropositions}
 use Rattle.omega_text.specs.declared.refusal.task.TaskFault.TheVariants.{TooWide, UniversalBranch}
-use Rattle.omega_text.specs.declared.refusal.task.TaskFault.TheVariants.{UnknownNode}
+use Rattle.omega_text.specs.declared.refusal.task.TaskFault.TheVariants.{Unjudged, UnknownNode}
 use Rattle.omega_hoa_acceptance.specs.declared.kind.AccKind.{AccKind}
 use Rattle.omega_hoa_automaton.specs.Automaton.{Description}
 use Rattle.omega_game_values.specs.Limits.{most_nodes}
@@ -58,6 +58,7 @@ IsTaskFault a Budget = ⊥
 IsTaskFault a BadSolution = ⊥
 IsTaskFault a UnknownNode = ⊥
 IsTaskFault a Controllable = ⊥
+IsTaskFault a Unjudged = ⊥
 IsTaskFault a TooLarge = ⊥
 IsTaskFault a (NotDeterministic state) = ⊥
 

@@ -11,7 +11,7 @@ use Rattle.omega_text.specs.hoa.Format.{hoa_format}
 use Rattle.omega_text.specs.declared.hoa.kind.HoaKind.{HoaKind}
 use Rattle.omega_text.specs.declared.hoa.kind.HoaKind.TheVariants.{End}
 use Rattle.omega_text.specs.declared.refusal.Refusal.{Refusal}
-use Rattle.omega_text.specs.declared.refusal.Refusal.TheVariants.{Automaton as AutomatonRefusal, Game, Io, Memory, Task, Text}
+use Rattle.omega_text.specs.declared.refusal.Refusal.TheVariants.{Automaton as AutomatonRefusal, Circuit, Game, Io, Memory, Task, Text}
 use Rattle.omega_text.specs.declared.refusal.text.TextFault.{TextFault}
 use Rattle.omega_text.specs.declared.refusal.text.TextFault.TheVariants.{Syntax}
 use Rattle.omega_hoa.specs.Alone.{AreRefused, HasNoSegmentAt, IsAutomatonRefusal, IsAutomatonText, IsInGrammar}
@@ -42,6 +42,7 @@ pub memory_says : (Says Wanted : Refusal → Type 0) (refusal : Refusal) → (Sa
 memory_says Says Wanted Memory follows says = tt
 memory_says Says Wanted (Text fault) follows says = follows says
 memory_says Says Wanted (Game fault) follows says = follows says
+memory_says Says Wanted (Circuit fault) follows says = follows says
 memory_says Says Wanted (AutomatonRefusal fault) follows says = follows says
 memory_says Says Wanted (Task fault) follows says = follows says
 memory_says Says Wanted Io follows says = follows says
@@ -51,6 +52,7 @@ pub of_memory : (Says : Refusal → Type 0) (refusal : Refusal) → Says refusal
 of_memory Says Memory says = tt
 of_memory Says (Text fault) says = says
 of_memory Says (Game fault) says = says
+of_memory Says (Circuit fault) says = says
 of_memory Says (AutomatonRefusal fault) says = says
 of_memory Says (Task fault) says = says
 of_memory Says Io says = says

@@ -3,7 +3,7 @@ use Rattle.std.proofs.Common.{◌≡◌, Some, None, List, [], sym, ap, subst, �
 use Rattle.omega_text.specs.Lexeme.{Lexeme}
 use Rattle.omega_text.specs.declared.hoa.kind.HoaKind.{HoaKind}
 use Rattle.omega_text.specs.declared.refusal.Refusal.{Refusal}
-use Rattle.omega_text.specs.declared.refusal.Refusal.TheVariants.{Automaton as AutomatonRefusal, Game, Io, Memory, Task, Text}
+use Rattle.omega_text.specs.declared.refusal.Refusal.TheVariants.{Automaton as AutomatonRefusal, Circuit, Game, Io, Memory, Task, Text}
 use Rattle.omega_text.specs.declared.refusal.text.TextFault.TheVariants.{Lex, Number, Syntax, TooLong}
 use Rattle.omega_text.specs.declared.refusal.automaton.AutomatonFault.{AutomatonFault}
 use Rattle.omega_hoa_syntax.specs.Laws.{RawsAreOne}
@@ -40,6 +40,7 @@ module _ (raws_one : RawsAreOne) (lexemes : List (Lexeme HoaKind)) where
   fault_one (Text (Number at)) other here there = absurd here
   fault_one (Text TooLong) other here there = absurd here
   fault_one (Game fault) other here there = absurd here
+  fault_one (Circuit fault) other here there = absurd here
   fault_one (Task fault) other here there = absurd here
   fault_one Memory other here there = absurd here
   fault_one Io other here there = absurd here
@@ -47,6 +48,7 @@ module _ (raws_one : RawsAreOne) (lexemes : List (Lexeme HoaKind)) where
   fault_one one (Text (Number at)) here there = absurd there
   fault_one one (Text TooLong) here there = absurd there
   fault_one one (Game fault) here there = absurd there
+  fault_one one (Circuit fault) here there = absurd there
   fault_one one (Task fault) here there = absurd there
   fault_one one Memory here there = absurd there
   fault_one one Io here there = absurd there
@@ -59,6 +61,7 @@ module _ (raws_one : RawsAreOne) (lexemes : List (Lexeme HoaKind)) where
       let same : None ≡ Some said = sym is.means.faultless ∙ ap automaton_fault_of (raw_one is.raw fault.raw is.written fault.written) ∙ fault.has in
       cc
   automaton_has_no_fault automaton (Game said) is fault = fault
+  automaton_has_no_fault automaton (Circuit said) is fault = fault
   automaton_has_no_fault automaton (Task said) is fault = fault
   automaton_has_no_fault automaton Memory is fault = fault
   automaton_has_no_fault automaton Io is fault = fault

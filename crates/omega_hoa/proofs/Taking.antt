@@ -12,7 +12,7 @@ use Rattle.omega_text.specs.declared.hoa.kind.HoaKind.{HoaKind}
 use Rattle.omega_text.specs.declared.hoa.kind.HoaKind.TheVariants.{End, Abort}
 use Rattle.omega_text.specs.declared.hoa.placed.PlacedToken.{PlacedToken}
 use Rattle.omega_text.specs.declared.refusal.Refusal.{Refusal}
-use Rattle.omega_text.specs.declared.refusal.Refusal.TheVariants.{Automaton as AutomatonRefusal, Game, Io, Memory, Task, Text}
+use Rattle.omega_text.specs.declared.refusal.Refusal.TheVariants.{Automaton as AutomatonRefusal, Circuit, Game, Io, Memory, Task, Text}
 use Rattle.omega_text.specs.declared.refusal.text.TextFault.TheVariants.{Syntax}
 use Rattle.omega_hoa.specs.Feeding.{IsDivided, IsRest}
 use Rattle.omega_hoa_automaton.specs.Automaton.{Description}
@@ -34,6 +34,7 @@ pub memory_or : (Holds : Refusal → Type 0) (refusal : Refusal) → or_memory H
 memory_or Holds Memory is = inl refl
 memory_or Holds (Text fault) is = inr is
 memory_or Holds (Game fault) is = inr is
+memory_or Holds (Circuit fault) is = inr is
 memory_or Holds (AutomatonRefusal fault) is = inr is
 memory_or Holds (Task fault) is = inr is
 memory_or Holds Io is = inr is

@@ -173,6 +173,7 @@ atom-unmeant raw (refusals.Automaton fault) is =
     ap (λ meant. fault_of_meant meant (raw_acc_depth raw)) (plain-none (acc_meant raw) (sym (plain-formula raw) ∙ is.1)) ∙ ap Some (sym is.0)
 atom-unmeant raw (refusals.Text fault) is = is
 atom-unmeant raw (refusals.Game fault) is = is
+atom-unmeant raw (refusals.Circuit fault) is = is
 atom-unmeant raw (refusals.Task fault) is = is
 atom-unmeant raw refusals.Memory is = is
 atom-unmeant raw refusals.Io is = is

@@ -2,7 +2,7 @@
 use Rattle.std.proofs.Common.{◌≡◌, ℕ, suc, ◌<◌, ◌≤◌, Bool, true, false, cond, ◌||◌, List, [], ◌∷◌, length, is_none, refl, arith}
 use Rattle.std.specs.Str.{bytes_eq}
 use Rattle.omega_text.specs.declared.refusal.Refusal.{Refusal}
-use Rattle.omega_text.specs.declared.refusal.Refusal.TheVariants.{Automaton, Game, Io, Memory, Task, Text}
+use Rattle.omega_text.specs.declared.refusal.Refusal.TheVariants.{Automaton, Circuit, Game, Io, Memory, Task, Text}
 use Rattle.omega_hoa_label_text.specs.Expanding.{Defined, IsRepeated, expansion, place_among}
 use Rattle.omega_hoa_label.specs.Raw.{RawLabelTree}
 use Rattle.omega_hoa_automaton.specs.declared.making.definitions.Definitions.{Definitions}
@@ -36,6 +36,7 @@ either false false h = h
 pub undefinable_by_name : (old : Definitions) (name : List ℕ) (body : RawLabelTree) (refusal : Refusal) → IsRepeated old.aliases name refusal → IsUndefinable old name body refusal
 undefinable_by_name old name body (Text fault) refused = refused
 undefinable_by_name old name body (Game fault) refused = refused
+undefinable_by_name old name body (Circuit fault) refused = refused
 undefinable_by_name old name body (Automaton fault) refused =
     (refused.0, either (is_named old.aliases name) (is_none (expansion old.aliases body)) (named_by_place old.aliases name refused.1))
 undefinable_by_name old name body (Task fault) refused = refused

@@ -6,7 +6,7 @@ use Rattle.std.specs.Str.{bytes_eq}
 use Rattle.std.proofs.lemmas.List.{map-append}
 use Rattle.std.proofs.lemmas.List.Folds.{list_any-append}
 use Rattle.omega_text.specs.declared.refusal.Refusal.{Refusal}
-use Rattle.omega_text.specs.declared.refusal.Refusal.TheVariants.{Automaton, Game, Io, Memory, Task, Text}
+use Rattle.omega_text.specs.declared.refusal.Refusal.TheVariants.{Automaton, Circuit, Game, Io, Memory, Task, Text}
 use Rattle.omega_text.specs.Cases.{IsMemory}
 use Rattle.omega_hoa_label_text.specs.Expanding.{Defined, Entry, Meaning, entries_of, expansion, replaced}
 use Rattle.omega_hoa_automaton.specs.Automaton.{has_repeat}
@@ -95,12 +95,14 @@ pub unnoted-met : (o : Option Defined) (ds : List Defined) (old : Definitions) (
     → MatchOption o (IsMemory refusal) (λ d. IsUndefinable old d.name d.body refusal) → IsUnnoted (ds ++ option_to_list o) refusal
 unnoted-met None ds old (Text fault) is refused = refused
 unnoted-met None ds old (Game fault) is refused = refused
+unnoted-met None ds old (Circuit fault) is refused = refused
 unnoted-met None ds old (Automaton fault) is refused = absurd refused
 unnoted-met None ds old (Task fault) is refused = refused
 unnoted-met None ds old Memory is refused = refused
 unnoted-met None ds old Io is refused = refused
 unnoted-met (Some d) ds old (Text fault) is refused = refused
 unnoted-met (Some d) ds old (Game fault) is refused = refused
+unnoted-met (Some d) ds old (Circuit fault) is refused = refused
 unnoted-met (Some d) ds old (Automaton fault) is refused =
     (refused.0, wrong-push ds d ∙ rw (ap (λ x. is_named x d.name || is_none (expansion x d.body)) (sym is) ∙ refused.1) (or_last (has_wrong_definition ds)))
 unnoted-met (Some d) ds old (Task fault) is refused = refused
@@ -111,6 +113,7 @@ unnoted-met (Some d) ds old Io is refused = refused
 pub unnoted-front : (xs ys : List Defined) (refusal : Refusal) → IsUnnoted xs refusal → IsUnnoted (xs ++ ys) refusal
 unnoted-front xs ys (Text fault) refused = refused
 unnoted-front xs ys (Game fault) refused = refused
+unnoted-front xs ys (Circuit fault) refused = refused
 unnoted-front xs ys (Automaton fault) refused = (refused.0, wrong-front xs ys refused.1)
 unnoted-front xs ys (Task fault) refused = refused
 unnoted-front xs ys Memory refused = refused

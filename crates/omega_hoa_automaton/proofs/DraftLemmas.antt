@@ -2,7 +2,7 @@
 use Rattle.std.proofs.Common.{◌≡◌, false, List, [], Option, Some, None, Result, Ok, Err, IfOk, option_map, option_and_then, unwrap_or, refl, ap, sym, ◌∙◌, subst}
 use Rattle.std.specs.List.{AllZip}
 use Rattle.omega_text.specs.declared.refusal.Refusal.{Refusal}
-use Rattle.omega_text.specs.declared.refusal.Refusal.TheVariants.{Automaton, Game, Io, Memory, Task, Text}
+use Rattle.omega_text.specs.declared.refusal.Refusal.TheVariants.{Automaton, Circuit, Game, Io, Memory, Task, Text}
 use Rattle.omega_hoa_acceptance.specs.Meaning.{acc_meant}
 use Rattle.omega_hoa_acceptance.specs.Acceptance.{AccTree}
 use Rattle.omega_hoa_acceptance.specs.Raw.{RawAccTree}
@@ -84,6 +84,7 @@ pub last-meaningless : (raw : RawAutomaton) (definitions : Definitions) (states 
     → AreNoted (definitions_of raw) definitions → states ≡ raw.states → IsLastFault definitions states outline.late outline.deep refusal → IsMeaningless raw refusal
 last-meaningless raw definitions states outline (Text fault) said noted same refused = refused
 last-meaningless raw definitions states outline (Game fault) said noted same refused = refused
+last-meaningless raw definitions states outline (Circuit fault) said noted same refused = refused
 last-meaningless raw definitions states outline (Automaton fault) said noted same refused =
     last_as raw definitions states outline.late (Some fault) outline.deep said.early noted same said.late said.deep (sym refused)
 last-meaningless raw definitions states outline (Task fault) said noted same refused = refused
@@ -94,6 +95,7 @@ last-meaningless raw definitions states outline Io said noted same refused = ref
 pub unnoted-meaningless : (raw : RawAutomaton) (refusal : Refusal) → early_fault raw ≡ None → IsUnnoted (definitions_of raw) refusal → IsMeaningless raw refusal
 unnoted-meaningless raw (Text fault) none refused = refused
 unnoted-meaningless raw (Game fault) none refused = refused
+unnoted-meaningless raw (Circuit fault) none refused = refused
 unnoted-meaningless raw (Automaton fault) none refused = rw refused.0 (alias_is raw none refused.1)
 unnoted-meaningless raw (Task fault) none refused = refused
 unnoted-meaningless raw Memory none refused = refused

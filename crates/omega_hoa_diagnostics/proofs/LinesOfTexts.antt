@@ -2,7 +2,7 @@
 use Rattle.std.proofs.Common.{◌≡◌, List, ℕ, [], refl, subst}
 use Rattle.omega_text.specs.Cases.{or_memory}
 use Rattle.omega_text.specs.declared.refusal.Refusal.{Refusal}
-use Rattle.omega_text.specs.declared.refusal.Refusal.TheVariants.{Automaton, Game, Io, Memory, Task, Text}
+use Rattle.omega_text.specs.declared.refusal.Refusal.TheVariants.{Automaton, Circuit, Game, Io, Memory, Task, Text}
 use Rattle.omega_hoa_automaton.specs.Automaton.{Description}
 use Rattle.omega_hoa.specs.Alone.{IsAutomatonRefusal, IsAutomatonText}
 use Rattle.omega_hoa.specs.Laws.{AutomataAreOne, AutomataAreUnrefused}
@@ -19,6 +19,7 @@ read_told IsLine text line a one is told = record {
 refused_by : (text : List ℕ) (refusal : Refusal) → or_memory (IsAutomatonRefusal text) refusal → (refusal ≡ Memory → ⊥) → IsAutomatonRefusal text refusal
 refused_by text (Text fault) is not_memory = is
 refused_by text (Game fault) is not_memory = is
+refused_by text (Circuit fault) is not_memory = is
 refused_by text (Automaton fault) is not_memory = is
 refused_by text (Task fault) is not_memory = is
 refused_by text Memory is not_memory = absurd (not_memory refl)

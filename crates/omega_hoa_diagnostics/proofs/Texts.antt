@@ -11,7 +11,7 @@ use Rattle.omega_text.specs.hoa.Format.{hoa_format}
 use Rattle.omega_text.specs.declared.hoa.kind.HoaKind.{HoaKind}
 use Rattle.omega_text.specs.declared.hoa.kind.HoaKind.TheVariants.{End}
 use Rattle.omega_text.specs.declared.refusal.Refusal.{Refusal}
-use Rattle.omega_text.specs.declared.refusal.Refusal.TheVariants.{Automaton, Game, Io, Memory, Task, Text}
+use Rattle.omega_text.specs.declared.refusal.Refusal.TheVariants.{Automaton, Circuit, Game, Io, Memory, Task, Text}
 use Rattle.omega_text.specs.declared.refusal.automaton.AutomatonFault.{AutomatonFault}
 use Rattle.omega_text.specs.declared.refusal.automaton.AutomatonFault.TheVariants.{AcceptanceAtom, Alias, Expansion, ImplicitCount, MissingAcceptance, MixedLabels, Proposition, RepeatedHeader, SetRange, StateRange, StateTwice, TooDeep, UnknownHeader, Version}
 use Rattle.omega_text.specs.declared.refusal.text.TextFault.TheVariants.{Syntax, TooLong}
@@ -150,6 +150,7 @@ pub refusal_tells : (text : List ℕ) (refusal : Refusal) → AutomataFillSegmen
     → or_memory (IsAutomatonRefusal text) refusal → IfOk (fault_in refusal) (IsFaultOf text)
 refusal_tells text (Text fault) fill unrefused one there why = refused_is_unwritten text (Text fault) fill unrefused one there why (λ other e. cc)
 refusal_tells text (Game fault) fill unrefused one there why = refused_is_unwritten text (Game fault) fill unrefused one there why (λ other e. cc)
+refusal_tells text (Circuit fault) fill unrefused one there why = refused_is_unwritten text (Circuit fault) fill unrefused one there why (λ other e. cc)
 refusal_tells text (Automaton fault) fill unrefused one there why = refused_for text fault fill unrefused one there why
 refusal_tells text (Task fault) fill unrefused one there why = refused_is_unwritten text (Task fault) fill unrefused one there why (λ other e. cc)
 refusal_tells text Memory fill unrefused one there why = tt

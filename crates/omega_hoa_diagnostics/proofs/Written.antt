@@ -8,7 +8,7 @@ use Rattle.omega_text.specs.Lexeme.{Lexeme}
 use Rattle.omega_text.specs.hoa.Format.{hoa_format}
 use Rattle.omega_text.specs.declared.hoa.kind.HoaKind.{HoaKind}
 use Rattle.omega_text.specs.declared.refusal.Refusal.{Refusal}
-use Rattle.omega_text.specs.declared.refusal.Refusal.TheVariants.{Automaton, Game, Io, Memory, Task, Text}
+use Rattle.omega_text.specs.declared.refusal.Refusal.TheVariants.{Automaton, Circuit, Game, Io, Memory, Task, Text}
 use Rattle.omega_text.specs.declared.refusal.text.TextFault.TheVariants.{Lex, Number, Syntax, TooLong}
 use Rattle.omega_hoa_diagnostics.specs.AutomatonCauses.{WritesAutomaton}
 
@@ -38,6 +38,7 @@ read_or_memory tokens count raw (Err (Text (Syntax at))) reads why =
     absurd (why.unread why.left (agrees why.left) raw [] (subst (λ lexemes. ReadsAutomaton lexemes raw []) why.split reads))
 read_or_memory tokens count raw (Err (Text TooLong)) reads why = absurd why
 read_or_memory tokens count raw (Err (Game fault)) reads why = absurd why
+read_or_memory tokens count raw (Err (Circuit fault)) reads why = absurd why
 read_or_memory tokens count raw (Err (Automaton fault)) reads why = absurd why
 read_or_memory tokens count raw (Err (Task fault)) reads why = absurd why
 read_or_memory tokens count raw (Err Memory) reads why = refl

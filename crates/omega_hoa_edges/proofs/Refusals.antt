@@ -4,7 +4,7 @@ use Rattle.std.specs.Prelude.{Result, Ok, Err, IfErr, IsErrAnd}
 use Rattle.omega_hoa_expression.specs.Depth.{IsDeeper}
 use Rattle.omega_text.specs.Cases.{never, or_memory, or_task}
 use Rattle.omega_text.specs.declared.refusal.Refusal.{Refusal}
-use Rattle.omega_text.specs.declared.refusal.Refusal.TheVariants.{Automaton, Game, Io, Memory, Task, Text}
+use Rattle.omega_text.specs.declared.refusal.Refusal.TheVariants.{Automaton, Circuit, Game, Io, Memory, Task, Text}
 use Rattle.omega_text.specs.declared.refusal.task.TaskFault.{TaskFault}
 use Rattle.omega_text.specs.declared.refusal.task.TaskFault.TheVariants.{TooLarge}
 use Rattle.omega_hoa_edges.specs.Fitting.{IsLarge}
@@ -14,6 +14,7 @@ pub task_weaker : (P Q : TaskFault → Type 0) → ((fault : TaskFault) → P fa
     → or_task P (or_memory never) refusal → or_task Q (or_memory never) refusal
 task_weaker P Q weaker (Text fault) h = h
 task_weaker P Q weaker (Game fault) h = h
+task_weaker P Q weaker (Circuit fault) h = h
 task_weaker P Q weaker (Automaton fault) h = h
 task_weaker P Q weaker (Task fault) h = weaker fault h
 task_weaker P Q weaker Memory h = tt
@@ -36,6 +37,7 @@ passed_on (Err e) P refusal is h = subst P (sym is) h
 pub not_deeper : (deep : Type 0) → (deep → ⊥) → (refusal : Refusal) → IsDeeper deep refusal → refusal ≡ Memory
 not_deeper deep never (Text fault) h = absurd h
 not_deeper deep never (Game fault) h = absurd h
+not_deeper deep never (Circuit fault) h = absurd h
 not_deeper deep never (Automaton fault) h = absurd (never h.1)
 not_deeper deep never (Task fault) h = absurd h
 not_deeper deep never Memory h = refl

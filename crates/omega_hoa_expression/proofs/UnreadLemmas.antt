@@ -39,6 +39,7 @@ first_after IsNone IsMore IsBegun IsMoreBegun whole front left length (refusals.
 }
 first_after IsNone IsMore IsBegun IsMoreBegun whole front left length (refusals.Text other) split follows begins is = is
 first_after IsNone IsMore IsBegun IsMoreBegun whole front left length (refusals.Game fault) split follows begins is = is
+first_after IsNone IsMore IsBegun IsMoreBegun whole front left length (refusals.Circuit fault) split follows begins is = is
 first_after IsNone IsMore IsBegun IsMoreBegun whole front left length (refusals.Automaton fault) split follows begins is = is
 first_after IsNone IsMore IsBegun IsMoreBegun whole front left length (refusals.Task fault) split follows begins is = is
 first_after IsNone IsMore IsBegun IsMoreBegun whole front left length refusals.Memory split follows begins is = is

@@ -21,7 +21,7 @@ use Rattle.omega_text.specs.Lexeme.{Lexeme}
 use Rattle.omega_text.specs.declared.hoa.kind.HoaKind.{HoaKind}
 use Rattle.omega_text.specs.declared.hoa.kind.HoaKind.TheVariants as kind
 use Rattle.omega_text.specs.declared.refusal.Refusal.{Refusal}
-use Rattle.omega_text.specs.declared.refusal.Refusal.TheVariants.{Automaton, Game, Io, Memory, Task, Text}
+use Rattle.omega_text.specs.declared.refusal.Refusal.TheVariants.{Automaton, Circuit, Game, Io, Memory, Task, Text}
 use Rattle.omega_text.specs.declared.refusal.text.TextFault.TheVariants.{Syntax}
 
 -- what holds of the tokens of one step, and then of another
@@ -78,6 +78,7 @@ pub after_step : (Held : Tokens → Tokens → Type 0) (IsNone Begun Wanted : To
 after_step Held IsNone Begun Wanted old middle length (Text (Syntax at)) one begins is = through_after Held IsNone Begun Wanted old middle length at one begins is
 after_step Held IsNone Begun Wanted old middle length (Text fault) one begins is = is
 after_step Held IsNone Begun Wanted old middle length (Game fault) one begins is = is
+after_step Held IsNone Begun Wanted old middle length (Circuit fault) one begins is = is
 after_step Held IsNone Begun Wanted old middle length (Automaton fault) one begins is = is
 after_step Held IsNone Begun Wanted old middle length (Task fault) one begins is = is
 after_step Held IsNone Begun Wanted old middle length Memory one begins is = is
@@ -140,6 +141,7 @@ pub with_next : (Holds : HoaKind → Type 0) (IsNone Begun : Tokens → Type 0) 
 with_next Holds IsNone Begun now length (Text (Syntax at)) next is = next_through Holds IsNone Begun now length at next is
 with_next Holds IsNone Begun now length (Text fault) next is = is
 with_next Holds IsNone Begun now length (Game fault) next is = is
+with_next Holds IsNone Begun now length (Circuit fault) next is = is
 with_next Holds IsNone Begun now length (Automaton fault) next is = is
 with_next Holds IsNone Begun now length (Task fault) next is = is
 with_next Holds IsNone Begun now length Memory next is = is

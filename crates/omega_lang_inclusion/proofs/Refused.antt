@@ -17,7 +17,7 @@ use Rattle.omega_lang_inclusion.specs.Refusing.{IsContainmentRefusal, no_memory,
 use Rattle.omega_hoa_label.specs.Label.{LabelTree, conjunction}
 use Rattle.omega_lang_lasso_word.specs.declared.symbolic_word.SymbolicWord.{SymbolicWord}
 use Rattle.omega_text.specs.declared.refusal.Refusal.{Refusal}
-use Rattle.omega_text.specs.declared.refusal.Refusal.TheVariants.{Automaton, Game, Io, Memory, Task, Text}
+use Rattle.omega_text.specs.declared.refusal.Refusal.TheVariants.{Automaton, Circuit, Game, Io, Memory, Task, Text}
 use Rattle.omega_text.specs.declared.refusal.task.TaskFault.{TaskFault}
 use Rattle.omega_text.specs.declared.refusal.task.TaskFault.TheVariants.{NotDeterministic, TooManyPropositions, UniversalBranch}
 use Rattle.omega_lang_inclusion.specs.Opening.{HasUnjudgedName, literal_of, place_among}
@@ -56,6 +56,7 @@ pub start_choice : (a : Description) (refusal : Refusal) → IsStartRefusal a re
 start_choice a (Task fault) (state, is, second) = (state, ap (λ (f : TaskFault). choice_in (Task f)) is, second)
 start_choice a (Text fault) h = absurd h
 start_choice a (Game fault) h = absurd h
+start_choice a (Circuit fault) h = absurd h
 start_choice a (Automaton fault) h = absurd h
 start_choice a Memory h = absurd h
 start_choice a Io h = absurd h
@@ -72,6 +73,7 @@ clash_choice a (Task fault) (inr first) other = inr (undecided first.undecided, 
     undecided (inr large) = ap (λ (f : TaskFault). choice_in (Task f)) large.0
 clash_choice a (Text fault) h other = absurd h
 clash_choice a (Game fault) h other = absurd h
+clash_choice a (Circuit fault) h other = absurd h
 clash_choice a (Automaton fault) h other = absurd h
 clash_choice a Memory h other = absurd (other refl)
 clash_choice a Io h other = absurd h

@@ -8,7 +8,7 @@ use Rattle.omega_text.specs.declared.refusal.task.TaskFault.TheVariants.{BadSolu
 use Rattle.omega_text.specs.declared.refusal.task.TaskFault.TheVariants.{NotDeterministic, NotParity}
 use Rattle.omega_text.specs.declared.refusal.task.TaskFault.TheVariants.{TooLarge, TooManyPropositions}
 use Rattle.omega_text.specs.declared.refusal.task.TaskFault.TheVariants.{TooWide, UniversalBranch}
-use Rattle.omega_text.specs.declared.refusal.task.TaskFault.TheVariants.{UnknownNode}
+use Rattle.omega_text.specs.declared.refusal.task.TaskFault.TheVariants.{Unjudged, UnknownNode}
 use Rattle.omega_hoa_automaton.specs.Automaton.{BodyEdge, Description, edge_at}
 use Rattle.omega_hoa_automaton.specs.Branching.{has_universal_branching}
 use Rattle.omega_lang_runs.specs.Judging.{IsHard}
@@ -37,6 +37,7 @@ IsJudgingFault a stem cycle Budget = ⊥
 IsJudgingFault a stem cycle BadSolution = ⊥
 IsJudgingFault a stem cycle UnknownNode = ⊥
 IsJudgingFault a stem cycle Controllable = ⊥
+IsJudgingFault a stem cycle Unjudged = ⊥
 IsJudgingFault a stem cycle TooLarge = ⊥
 IsJudgingFault a stem cycle (NotDeterministic state) = ⊥
 

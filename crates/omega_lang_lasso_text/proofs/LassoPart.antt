@@ -10,7 +10,7 @@ use Rattle.omega_text.specs.Limits.{most_text}
 use Rattle.omega_text.proofs.pg_texts.Classes.{digit_range}
 use Rattle.omega_text.proofs.pg_texts.Numbers.{decimal_digits}
 use Rattle.omega_text.specs.declared.refusal.Refusal.{Refusal}
-use Rattle.omega_text.specs.declared.refusal.Refusal.TheVariants.{Automaton, Game, Io, Memory, Task, Text}
+use Rattle.omega_text.specs.declared.refusal.Refusal.TheVariants.{Automaton, Circuit, Game, Io, Memory, Task, Text}
 use Rattle.omega_text.specs.declared.refusal.text.TextFault.TheVariants.{Lex, Number, Syntax, TooLong}
 use Rattle.omega_lang_lasso_text.specs.Laws.{WrittenLassosAreRead, WrittenLinesAreRead}
 use Rattle.omega_lang_lasso_text.specs.Lines.{IsReadLassoLinesRefusal, lasso_part, ends_lasso}
@@ -131,6 +131,7 @@ lines_refused source short (Text (Lex at)) is = (short, is)
 lines_refused source short (Text (Number at)) is = (short, is)
 lines_refused source short (Text (Syntax at)) is = (short, is)
 lines_refused source short (Game fault) is = is
+lines_refused source short (Circuit fault) is = is
 lines_refused source short (Automaton fault) is = is
 lines_refused source short (Task fault) is = is
 lines_refused source short Memory is = is

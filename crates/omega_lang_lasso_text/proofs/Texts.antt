@@ -5,7 +5,7 @@ use Rattle.omega_text.specs.Cut.{CutsAreOne}
 use Rattle.omega_text.specs.Reading.{IsReadText}
 use Rattle.omega_text.specs.Syntax.{IsDecidable, IsTextFault, IsTextOf, TextFaultsAreOne, TextsAreReadOrFaulty, TextsHaveNoFault, TokensComplete}
 use Rattle.omega_text.specs.declared.refusal.Refusal.{Refusal}
-use Rattle.omega_text.specs.declared.refusal.Refusal.TheVariants.{Automaton, Game, Io, Memory, Task, Text}
+use Rattle.omega_text.specs.declared.refusal.Refusal.TheVariants.{Automaton, Circuit, Game, Io, Memory, Task, Text}
 use Rattle.omega_lang_lasso_text.specs.Format.{lasso_format}
 use Rattle.omega_lang_lasso_text.specs.Grammar.{lasso_syntax}
 use Rattle.omega_lang_lasso_text.specs.Laws.{LassoRefusalsAreOne, LassoTextsAreReadOrRefused, LassosAreNotRefused, LassosOfTextsAreOne}
@@ -33,6 +33,7 @@ lasso_read source start reader lasso before around read =
 pub lasso_unread : (source : List ℕ) (refusal : Refusal) → or_text (IsTextFault lasso_syntax source) (or_memory never) refusal → IsReadLassoRefusal source refusal
 lasso_unread source (Text fault) refused = refused
 lasso_unread source (Game fault) refused = refused
+lasso_unread source (Circuit fault) refused = refused
 lasso_unread source (Automaton fault) refused = refused
 lasso_unread source (Task fault) refused = refused
 lasso_unread source Memory refused = refused
@@ -44,11 +45,13 @@ lassos_one cuts source one other a b = texts_one cuts source one other a.writes 
 pub refusals_one : TextFaultsAreOne lasso_syntax → LassoRefusalsAreOne
 refusals_one faults source (Text one) (Text other) a b = ap Text (faults source one other a b)
 refusals_one faults source (Text one) (Game other) a b = absurd b
+refusals_one faults source (Text one) (Circuit other) a b = absurd b
 refusals_one faults source (Text one) (Automaton other) a b = absurd b
 refusals_one faults source (Text one) (Task other) a b = absurd b
 refusals_one faults source (Text one) Memory a b = absurd b
 refusals_one faults source (Text one) Io a b = absurd b
 refusals_one faults source (Game one) other a b = absurd a
+refusals_one faults source (Circuit one) other a b = absurd a
 refusals_one faults source (Automaton one) other a b = absurd a
 refusals_one faults source (Task one) other a b = absurd a
 refusals_one faults source Memory other a b = absurd a
@@ -57,6 +60,7 @@ refusals_one faults source Io other a b = absurd a
 pub lassos_apart : TextsHaveNoFault lasso_syntax → LassosAreNotRefused
 lassos_apart none source lasso (Text fault) text refused = none source lasso fault text.short text.writes refused
 lassos_apart none source lasso (Game fault) text refused = refused
+lassos_apart none source lasso (Circuit fault) text refused = refused
 lassos_apart none source lasso (Automaton fault) text refused = refused
 lassos_apart none source lasso (Task fault) text refused = refused
 lassos_apart none source lasso Memory text refused = refused

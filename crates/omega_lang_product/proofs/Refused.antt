@@ -3,7 +3,7 @@ use Rattle.std.specs.Prelude.{Result, Ok, Err, IfErr}
 use Rattle.omega_text.specs.Cases.{never, or_memory, or_task}
 use Rattle.omega_text.specs.declared.refusal.Refusal.{Refusal}
 use Rattle.omega_text.specs.declared.refusal.task.TaskFault.{TaskFault}
-use Rattle.omega_text.specs.declared.refusal.task.TaskFault.TheVariants.{BadSolution, Budget, Controllable, NotDeterministic, NotParity, TooLarge, TooManyPropositions, TooWide, UniversalBranch, UnknownNode}
+use Rattle.omega_text.specs.declared.refusal.task.TaskFault.TheVariants.{BadSolution, Budget, Controllable, NotDeterministic, NotParity, TooLarge, TooManyPropositions, TooWide, UniversalBranch, Unjudged, UnknownNode}
 use Rattle.omega_hoa_automaton.specs.Automaton.{Description}
 use Rattle.omega_lang_product.specs.Refusing.{HaveNoBranch, IsGraphTooLarge, IsPairsFault, IsProductTooLarge, large_graph}
 use Rattle.omega_lang_product.specs.private.Faults.{IsGraphFault, IsJoinFault, IsProductFault}
@@ -29,6 +29,7 @@ fault_weaker P Q one other weaker Budget h = h
 fault_weaker P Q one other weaker BadSolution h = h
 fault_weaker P Q one other weaker UnknownNode h = h
 fault_weaker P Q one other weaker Controllable h = h
+fault_weaker P Q one other weaker Unjudged h = h
 fault_weaker P Q one other weaker TooLarge h = weaker h
 fault_weaker P Q one other weaker (NotDeterministic state) h = h
 
@@ -48,6 +49,7 @@ plain_fault large one other plain Budget h = h
 plain_fault large one other plain BadSolution h = h
 plain_fault large one other plain UnknownNode h = h
 plain_fault large one other plain Controllable h = h
+plain_fault large one other plain Unjudged h = h
 plain_fault large one other plain TooLarge h = (plain, h)
 plain_fault large one other plain (NotDeterministic state) h = h
 

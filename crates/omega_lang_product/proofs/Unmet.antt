@@ -3,7 +3,7 @@ use Rattle.std.proofs.Common.{◌≡◌, ℕ, ◌<◌, ◌⊎◌, inl, inr, List
 use Rattle.omega_text.specs.Cases.{never, or_memory, or_task}
 use Rattle.omega_text.specs.declared.refusal.Refusal.{Refusal}
 use Rattle.omega_text.specs.declared.refusal.task.TaskFault.{TaskFault}
-use Rattle.omega_text.specs.declared.refusal.task.TaskFault.TheVariants.{BadSolution, Budget, Controllable, NotDeterministic, NotParity, TooLarge, TooManyPropositions, TooWide, UniversalBranch, UnknownNode}
+use Rattle.omega_text.specs.declared.refusal.task.TaskFault.TheVariants.{BadSolution, Budget, Controllable, NotDeterministic, NotParity, TooLarge, TooManyPropositions, TooWide, UniversalBranch, Unjudged, UnknownNode}
 use Rattle.omega_hoa_label.specs.Label.{LabelTree, conjunction}
 use Rattle.omega_hoa_label.specs.Shape.{FitsALabel}
 use Rattle.omega_hoa_satisfiable.specs.Undecided.{IsHardLabel}
@@ -49,6 +49,7 @@ module _ (one other : Description) (pair : Pair) (reachable : IsReachable one ot
   join_fault BadSolution unmet = unmet.partner.unmet
   join_fault UnknownNode unmet = unmet.partner.unmet
   join_fault Controllable unmet = unmet.partner.unmet
+  join_fault Unjudged unmet = unmet.partner.unmet
   join_fault TooLarge unmet =
       unfit_meeting (record { plain_edge = unmet.plain_edge; partner = unmet.partner.other; met = met TooLarge unmet; unfit = unmet.partner.unmet })
   join_fault (NotDeterministic state) unmet = unmet.partner.unmet

@@ -3,7 +3,7 @@ use Rattle.std.proofs.Common.{◌≡◌, ℕ, zero, suc, ◌<◌, ◌≤◌, inl
 use Rattle.std.specs.List.{flat_map}
 use Rattle.std.proofs.lemmas.List.Elements.{Contains-append_cases, Contains-append_left, Contains-append_right}
 use Rattle.omega_text.specs.declared.refusal.Refusal.{Refusal}
-use Rattle.omega_text.specs.declared.refusal.Refusal.TheVariants.{Automaton, Game, Io, Memory, Task, Text}
+use Rattle.omega_text.specs.declared.refusal.Refusal.TheVariants.{Automaton, Circuit, Game, Io, Memory, Task, Text}
 use Rattle.omega_hoa_label.specs.Label.{LabelTree}
 use Rattle.omega_hoa_expression.specs.Limits.{most_mentioned}
 use Rattle.omega_hoa_satisfiable.specs.Satisfiable.{mentioned}
@@ -74,6 +74,7 @@ hard_label = label_of_state IsHardLabel
 pub wide_refused : (P Q : Type 0) → (P → Q) → (e : Refusal) → GivesUpOn P e → GivesUpOn Q e
 wide_refused P Q gives (Text fault) refused = refused
 wide_refused P Q gives (Game fault) refused = refused
+wide_refused P Q gives (Circuit fault) refused = refused
 wide_refused P Q gives (Automaton fault) refused = refused
 wide_refused P Q gives (Task fault) refused = (refused.0, gives refused.1)
 wide_refused P Q gives Memory refused = refused

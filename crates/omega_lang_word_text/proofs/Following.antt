@@ -41,6 +41,7 @@ module _ (IsMore IsMoreBegun IsNone IsBegun : Tokens → Type 0) (length : ℕ) 
   refused_then whole rest follows (refusals.Text (faults.Syntax at)) is = follows at is
   refused_then whole rest follows (refusals.Text other) is = is
   refused_then whole rest follows (refusals.Game fault) is = is
+  refused_then whole rest follows (refusals.Circuit fault) is = is
   refused_then whole rest follows (refusals.Automaton fault) is = is
   refused_then whole rest follows (refusals.Task fault) is = is
   refused_then whole rest follows refusals.Memory is = is

@@ -10,7 +10,7 @@ use Rattle.omega_text.specs.declared.hoa.kind.HoaKind.{HoaKind}
 use Rattle.omega_text.specs.declared.token.Token.{Token}
 use Rattle.omega_text.specs.Limits.{most_text}
 use Rattle.omega_text.specs.declared.refusal.Refusal.{Refusal}
-use Rattle.omega_text.specs.declared.refusal.Refusal.TheVariants.{Automaton, Game, Io, Memory, Task, Text}
+use Rattle.omega_text.specs.declared.refusal.Refusal.TheVariants.{Automaton, Circuit, Game, Io, Memory, Task, Text}
 use Rattle.omega_text.specs.declared.refusal.text.TextFault.TheVariants.{Lex, Number, Syntax, TooLong}
 use Rattle.omega_lang_word_text.specs.Cut.{word_format}
 use Rattle.omega_lang_word_text.specs.Grammar.{BeginsWord, ReadsNoWord, ReadsWord}
@@ -26,6 +26,7 @@ module _ (source : List ℕ) (short : length source ≤ most_text) where
   fault_refused (Text (Syntax at)) is = absurd is.faults.fault_there.fault_there
   fault_refused (Text TooLong) is = absurd is.faults.fault_there.fault_there
   fault_refused (Game fault) is = absurd is
+  fault_refused (Circuit fault) is = absurd is
   fault_refused (Automaton fault) is = absurd is
   fault_refused (Task fault) is = absurd is
   fault_refused Memory is = tt
@@ -39,6 +40,7 @@ module _ (source : List ℕ) (short : length source ≤ most_text) where
   unread_refused names tokens read (Text (Number at)) is = absurd is
   unread_refused names tokens read (Text TooLong) is = absurd is
   unread_refused names tokens read (Game fault) is = absurd is
+  unread_refused names tokens read (Circuit fault) is = absurd is
   unread_refused names tokens read (Automaton fault) is = absurd is
   unread_refused names tokens read (Task fault) is = absurd is
   unread_refused names tokens read Memory is = tt

@@ -16,7 +16,7 @@ use Rattle.omega_text.specs.Lexeme.{Lexeme}
 use Rattle.omega_text.specs.declared.hoa.kind.HoaKind.{HoaKind}
 use Rattle.omega_text.specs.declared.hoa.kind.HoaKind.TheVariants as kind
 use Rattle.omega_text.specs.declared.refusal.Refusal.{Refusal}
-use Rattle.omega_text.specs.declared.refusal.Refusal.TheVariants.{Automaton, Game, Io, Memory, Task, Text}
+use Rattle.omega_text.specs.declared.refusal.Refusal.TheVariants.{Automaton, Circuit, Game, Io, Memory, Task, Text}
 use Rattle.omega_text.specs.declared.refusal.text.TextFault.TheVariants.{Lex, Number, Syntax, TooLong}
 use Rattle.omega_text.proofs.formats.Stops.{not_both, one_cut}
 use Rattle.omega_lang_word_text.specs.Cut.{word_format}
@@ -150,6 +150,7 @@ words_are_not_refused exact source word (Text (Syntax at)) is refused =
     (same_word wrong.tokens is.tokens word.stem (word.first ∷ word.others) same is.reads)
 words_are_not_refused exact source word (Text TooLong) is refused = (let short = is.short in omega (arith, refused))
 words_are_not_refused exact source word (Game fault) is refused = refused
+words_are_not_refused exact source word (Circuit fault) is refused = refused
 words_are_not_refused exact source word (Automaton fault) is refused = refused
 words_are_not_refused exact source word (Task fault) is refused = refused
 words_are_not_refused exact source word Memory is refused = refused

@@ -7,9 +7,9 @@ use Rattle.std.proofs.lemmas.Option.{slice_get_within}
 use Rattle.std.proofs.lemmas.Slice.Eq.{bytes_eq-Decides}
 use Rattle.omega_text.specs.Cases.{IsMemory}
 use Rattle.omega_text.specs.declared.refusal.Refusal.{Refusal}
-use Rattle.omega_text.specs.declared.refusal.Refusal.TheVariants.{Automaton, Game, Io, Memory, Task, Text}
+use Rattle.omega_text.specs.declared.refusal.Refusal.TheVariants.{Automaton, Circuit, Game, Io, Memory, Task, Text}
 use Rattle.omega_text.specs.declared.refusal.task.TaskFault.{TaskFault}
-use Rattle.omega_text.specs.declared.refusal.task.TaskFault.TheVariants.{BadSolution, Budget, Controllable, NotDeterministic, NotParity, TooLarge, TooManyPropositions, TooWide, UniversalBranch, UnknownNode}
+use Rattle.omega_text.specs.declared.refusal.task.TaskFault.TheVariants.{BadSolution, Budget, Controllable, NotDeterministic, NotParity, TooLarge, TooManyPropositions, TooWide, UniversalBranch, Unjudged, UnknownNode}
 use Rattle.omega_hoa_syntax.specs.declared.header_value.HeaderValue.TheVariants as value
 use Rattle.omega_hoa_automaton.specs.Automaton.{Description, has_repeat}
 use Rattle.omega_hoa_automaton.specs.Branching.{has_universal_branching, state_branches}
@@ -53,8 +53,10 @@ about_none controller (Task BadSolution) is = refl
 about_none controller (Task UnknownNode) is = refl
 about_none controller (Task TooLarge) is = refl
 about_none controller (Task Controllable) is = refl
+about_none controller (Task Unjudged) is = refl
 about_none controller (Text fault) is = refl
 about_none controller (Game fault) is = refl
+about_none controller (Circuit fault) is = refl
 about_none controller (Automaton fault) is = refl
 about_none controller Memory is = refl
 about_none controller Io is = refl

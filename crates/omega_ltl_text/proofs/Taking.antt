@@ -8,7 +8,7 @@ use Rattle.std.specs.Option.{is_some}
 use Rattle.std.proofs.lemmas.Bool.{le-leb}
 use Rattle.std.proofs.lemmas.List.{length-map, length-reverse, nil_from_length}
 use Rattle.omega_text.specs.declared.refusal.Refusal.{Refusal}
-use Rattle.omega_text.specs.declared.refusal.Refusal.TheVariants.{Automaton, Game, Io, Memory, Task, Text}
+use Rattle.omega_text.specs.declared.refusal.Refusal.TheVariants.{Automaton, Circuit, Game, Io, Memory, Task, Text}
 use Rattle.omega_ltl_formula.specs.Building.{Adds, IsFormulaRefusal, IsLarge}
 use Rattle.omega_ltl_formula.specs.Formula.{FormulaTree, binary, constant as constant_tree, formula_depth}
 use Rattle.omega_ltl_formula.specs.Formula.{formula_size, unary}
@@ -236,6 +236,7 @@ module _ (reader : ReaderState) (table new : FormulaTable) (pending rest : List 
   refusal_is few (Task fault) why other same = (why.0, (let e = ap formula_depth same in omega (arith, why.1, e)), large_left few other same why.2)
   refusal_is few (Text fault) why other same = why
   refusal_is few (Game fault) why other same = why
+  refusal_is few (Circuit fault) why other same = why
   refusal_is few Memory why other same = why
   refusal_is few Io why other same = why
 

@@ -9,7 +9,7 @@ use Rattle.omega_text.specs.Reading.{IsReadText}
 use Rattle.omega_text.specs.Syntax.{IsDecidable, IsTextFault, IsTextOf, TextFaultsAreOne}
 use Rattle.omega_text.specs.Syntax.{TextsAreReadOrFaulty, TextsHaveNoFault, TokensComplete}
 use Rattle.omega_text.specs.declared.refusal.Refusal.{Refusal}
-use Rattle.omega_text.specs.declared.refusal.Refusal.TheVariants.{Automaton, Game, Io, Memory, Task, Text}
+use Rattle.omega_text.specs.declared.refusal.Refusal.TheVariants.{Automaton, Circuit, Game, Io, Memory, Task, Text}
 use Rattle.omega_text.specs.declared.refusal.automaton.AutomatonFault.TheVariants.{TooDeep}
 use Rattle.omega_text.specs.declared.refusal.task.TaskFault.TheVariants.{TooLarge}
 use Rattle.omega_ltl_formula.specs.Building.{names_of}
@@ -49,6 +49,7 @@ refused_as source tree says names named (Task fault) why = (
     go (inr many) = inr (omega (arith, named, many))
 refused_as source tree says names named (Text fault) why = absurd why
 refused_as source tree says names named (Game fault) why = absurd why
+refused_as source tree says names named (Circuit fault) why = absurd why
 refused_as source tree says names named Memory why = why
 refused_as source tree says names named Io why = absurd why
 
@@ -139,6 +140,7 @@ measure_refused_if source start measurer (Err refusal) read why =
 pub formula_unread : (source : List ℕ) (refusal : Refusal) → or_text (IsTextFault formula_syntax source) (or_memory never) refusal → IsReadFormulaRefusal source refusal
 formula_unread source (Text fault) why = why
 formula_unread source (Game fault) why = why
+formula_unread source (Circuit fault) why = why
 formula_unread source (Automaton fault) why = absurd why
 formula_unread source (Task fault) why = absurd why
 formula_unread source Memory why = why
@@ -150,6 +152,7 @@ formulas_one cuts source one other a b = texts_one cuts source one other a.write
 pub formulas_apart : CutsAreOne formula_format → TextsHaveNoFault formula_syntax → FormulasAreNotRefused
 formulas_apart cuts none source tree (Text fault) text why = none source tree fault text.says.short text.says.writes why
 formulas_apart cuts none source tree (Game fault) text why = why
+formulas_apart cuts none source tree (Circuit fault) text why = why
 formulas_apart cuts none source tree (Automaton fault) text why =
     let same = ap formula_depth (formulas_one cuts source tree why.1.tree text.says why.1.says) in
     omega (arith, same, why.1.deep, text.within.shallow)
@@ -176,21 +179,25 @@ refusals_one cuts none faults source (Text fault) (Text other) one two = ap Text
 refusals_one cuts none faults source (Text fault) (Automaton other) one two = absurd (none source two.1.tree fault two.1.says.short two.1.says.writes one)
 refusals_one cuts none faults source (Text fault) (Task other) one two = absurd (none source two.1.tree fault two.1.says.short two.1.says.writes one)
 refusals_one cuts none faults source (Text fault) (Game other) one two = absurd two
+refusals_one cuts none faults source (Text fault) (Circuit other) one two = absurd two
 refusals_one cuts none faults source (Text fault) Memory one two = absurd two
 refusals_one cuts none faults source (Text fault) Io one two = absurd two
 refusals_one cuts none faults source (Automaton fault) (Text other) one two = absurd (none source one.1.tree other one.1.says.short one.1.says.writes two)
 refusals_one cuts none faults source (Automaton fault) (Automaton other) one two = ap Automaton (one.0 ∙ sym two.0)
 refusals_one cuts none faults source (Automaton fault) (Task other) one two = absurd (deep_or_large cuts source one.1 two.1)
 refusals_one cuts none faults source (Automaton fault) (Game other) one two = absurd two
+refusals_one cuts none faults source (Automaton fault) (Circuit other) one two = absurd two
 refusals_one cuts none faults source (Automaton fault) Memory one two = absurd two
 refusals_one cuts none faults source (Automaton fault) Io one two = absurd two
 refusals_one cuts none faults source (Task fault) (Text other) one two = absurd (none source one.1.tree other one.1.says.short one.1.says.writes two)
 refusals_one cuts none faults source (Task fault) (Automaton other) one two = absurd (deep_or_large cuts source two.1 one.1)
 refusals_one cuts none faults source (Task fault) (Task other) one two = ap Task (one.0 ∙ sym two.0)
 refusals_one cuts none faults source (Task fault) (Game other) one two = absurd two
+refusals_one cuts none faults source (Task fault) (Circuit other) one two = absurd two
 refusals_one cuts none faults source (Task fault) Memory one two = absurd two
 refusals_one cuts none faults source (Task fault) Io one two = absurd two
 refusals_one cuts none faults source (Game fault) other one two = absurd one
+refusals_one cuts none faults source (Circuit fault) other one two = absurd one
 refusals_one cuts none faults source Memory other one two = absurd one
 refusals_one cuts none faults source Io other one two = absurd one
 

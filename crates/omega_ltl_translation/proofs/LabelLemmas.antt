@@ -4,7 +4,7 @@ use Rattle.std.specs.Prelude.{Contains, IsTrue, None, Option, Some, nat_le, nat_
 use Rattle.std.proofs.lemmas.Bool.{and_from, and_parts, both_ways, cases_lt, false≢true, le-ltb, lt-leb, or_cases, or_left, or_right}
 use Rattle.std.proofs.lemmas.List.Elements.{Contains-append_left, Contains-push, Contains-push_cases}
 use Rattle.omega_text.specs.declared.refusal.Refusal.{Refusal}
-use Rattle.omega_text.specs.declared.refusal.Refusal.TheVariants.{Automaton, Game, Io, Memory, Task, Text}
+use Rattle.omega_text.specs.declared.refusal.Refusal.TheVariants.{Automaton, Circuit, Game, Io, Memory, Task, Text}
 use Rattle.omega_text.specs.Cases.{IsMemory}
 use Rattle.omega_hoa_expression.specs.Depth.{IsDeeper}
 use Rattle.omega_hoa_label.specs.Label.{LabelTree, truth}
@@ -213,6 +213,7 @@ module _ (cube : Cube) (name : ℕ) (positive negative : Bool) (first : positive
 pub deep_weaker : (deep : Type 0) (refusal : Refusal) → IsDeeper deep refusal → IsDeep refusal
 deep_weaker deep (Text fault) h = h
 deep_weaker deep (Game fault) h = h
+deep_weaker deep (Circuit fault) h = h
 deep_weaker deep (Automaton fault) h = h.0
 deep_weaker deep (Task fault) h = h
 deep_weaker deep Memory h = tt
@@ -221,6 +222,7 @@ deep_weaker deep Io h = h
 pub memory_deep : (refusal : Refusal) → IsMemory refusal → IsDeep refusal
 memory_deep (Text fault) h = h
 memory_deep (Game fault) h = h
+memory_deep (Circuit fault) h = h
 memory_deep (Automaton fault) h = absurd h
 memory_deep (Task fault) h = h
 memory_deep Memory h = tt

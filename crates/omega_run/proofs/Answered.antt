@@ -4,7 +4,7 @@ use Rattle.std.proofs.Common.{◌≡◌, ◌⊎◌, ℕ, ◌+◌, ◌≤◌, Boo
 use Rattle.omega_text.specs.Cases.{never, or_memory}
 use Rattle.omega_text.specs.Limits.{most_text}
 use Rattle.omega_text.specs.declared.refusal.Refusal.{Refusal}
-use Rattle.omega_text.specs.declared.refusal.Refusal.TheVariants.{Automaton, Game, Io, Memory, Task, Text}
+use Rattle.omega_text.specs.declared.refusal.Refusal.TheVariants.{Automaton, Circuit, Game, Io, Memory, Task, Text}
 use Rattle.omega_cli_command.specs.declared.command.Command.TheVariants as command
 use Rattle.omega_cli_command.specs.declared.formulas.Formulas.{Formulas}
 use Rattle.omega_cli_command.specs.declared.one_text.OneText.{OneText}
@@ -35,6 +35,7 @@ about_input : (P : Refusal → Type 0) (refusal : Refusal) → or_memory P refus
     → IsRefusedOf never P (about Input refusal)
 about_input P (Text fault) h none = h
 about_input P (Game fault) h none = h
+about_input P (Circuit fault) h none = h
 about_input P (Automaton fault) h none = h
 about_input P (Task fault) h none = h
 about_input P Memory h none = refl
@@ -55,6 +56,7 @@ module _ {T : Type 0} (bytes_of : T → List ℕ) (budget : ℕ) (read : Texts) 
       → IsRefusedOf never (λ refusal. AnswersStream stream budget read.input (Err refusal)) (about Input refusal)
   stream_refused stream rest (Text fault) short h none = holds_of_read read.input short _ rest h
   stream_refused stream rest (Game fault) short h none = holds_of_read read.input short _ rest h
+  stream_refused stream rest (Circuit fault) short h none = holds_of_read read.input short _ rest h
   stream_refused stream rest (Automaton fault) short h none = holds_of_read read.input short _ rest h
   stream_refused stream rest (Task fault) short h none = holds_of_read read.input short _ rest h
   stream_refused stream rest Memory short h none = refl
@@ -86,6 +88,7 @@ module _ {T : Type 0} (bytes_of : T → List ℕ) (budget : ℕ) (read : Texts) 
 about_input_plain : (refusal : Refusal) → (about Input refusal).refusal ≡ refusal
 about_input_plain (Text fault) = refl
 about_input_plain (Game fault) = refl
+about_input_plain (Circuit fault) = refl
 about_input_plain (Automaton fault) = refl
 about_input_plain (Task fault) = refl
 about_input_plain Memory = refl

@@ -1,7 +1,7 @@
 -- Refusals of the steps are refusals of the search and of the judge.
 use Rattle.std.proofs.Common.{◌≡◌, inl, inr, ℕ, List, Contains, Option, None, Some, sym, subst}
 use Rattle.omega_text.specs.declared.refusal.Refusal.{Refusal}
-use Rattle.omega_text.specs.declared.refusal.Refusal.TheVariants.{Automaton, Game, Io, Memory, Task, Text}
+use Rattle.omega_text.specs.declared.refusal.Refusal.TheVariants.{Automaton, Circuit, Game, Io, Memory, Task, Text}
 use Rattle.omega_text.specs.declared.refusal.task.TaskFault.{TaskFault}
 use Rattle.omega_text.specs.declared.refusal.task.TaskFault.TheVariants.{TooManyPropositions}
 use Rattle.omega_hoa_automaton.specs.Automaton.{Description}
@@ -61,6 +61,7 @@ form_refused specification a controlled (Task fault) refused = go fault refused
 form_refused specification a controlled Memory refused = absurd refused
 form_refused specification a controlled (Text fault) refused = absurd refused
 form_refused specification a controlled (Game fault) refused = absurd refused
+form_refused specification a controlled (Circuit fault) refused = absurd refused
 form_refused specification a controlled (Automaton fault) refused = absurd refused
 form_refused specification a controlled Io refused = absurd refused
 
@@ -75,5 +76,6 @@ counter_form_refused specification a controlled (Task fault) refused = go fault 
 counter_form_refused specification a controlled Memory refused = absurd refused
 counter_form_refused specification a controlled (Text fault) refused = absurd refused
 counter_form_refused specification a controlled (Game fault) refused = absurd refused
+counter_form_refused specification a controlled (Circuit fault) refused = absurd refused
 counter_form_refused specification a controlled (Automaton fault) refused = absurd refused
 counter_form_refused specification a controlled Io refused = absurd refused

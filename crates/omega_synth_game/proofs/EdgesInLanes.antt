@@ -6,7 +6,7 @@ use Rattle.std.proofs.lemmas.Bool.{cases_Bool, cases_eq, cond-false, cond-true, 
 use Rattle.std.proofs.lemmas.List.{get_or_append_left}
 use Rattle.std.proofs.lemmas.Nat.Bits.{bit_at_set_other, bit_at_set_same}
 use Rattle.omega_text.specs.declared.refusal.Refusal.{Refusal}
-use Rattle.omega_text.specs.declared.refusal.Refusal.TheVariants.{Automaton, Game, Io, Memory, Task, Text}
+use Rattle.omega_text.specs.declared.refusal.Refusal.TheVariants.{Automaton, Circuit, Game, Io, Memory, Task, Text}
 use Rattle.omega_hoa_label.specs.Label.{LabelTree}
 use Rattle.omega_hoa_automaton.specs.Automaton.{BodyEdge, Description, edge_at}
 use Rattle.omega_synth_controllers.specs.Controllers.{Answers}
@@ -108,6 +108,7 @@ letter_refused a controlled letter number (Task fault) refused = (letter, refuse
 letter_refused a controlled letter number Memory refused = refused
 letter_refused a controlled letter number (Text fault) refused = absurd refused
 letter_refused a controlled letter number (Game fault) refused = absurd refused
+letter_refused a controlled letter number (Circuit fault) refused = absurd refused
 letter_refused a controlled letter number (Automaton fault) refused = absurd refused
 letter_refused a controlled letter number Io refused = absurd refused
 
@@ -117,6 +118,7 @@ edge_refused a controlled numbers number (Task fault) has refused = (refused.0, 
 edge_refused a controlled numbers number Memory has refused = refused
 edge_refused a controlled numbers number (Text fault) has refused = absurd refused
 edge_refused a controlled numbers number (Game fault) has refused = absurd refused
+edge_refused a controlled numbers number (Circuit fault) has refused = absurd refused
 edge_refused a controlled numbers number (Automaton fault) has refused = absurd refused
 edge_refused a controlled numbers number Io has refused = absurd refused
 

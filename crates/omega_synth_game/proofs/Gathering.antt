@@ -10,7 +10,7 @@ use Rattle.std.proofs.lemmas.List.Concat.{length-flat_map}
 use Rattle.std.proofs.lemmas.List.Sums.{sum_by-cons}
 use Rattle.std.proofs.lemmas.Option.{slice_get_within}
 use Rattle.omega_text.specs.declared.refusal.Refusal.{Refusal}
-use Rattle.omega_text.specs.declared.refusal.Refusal.TheVariants.{Automaton, Game, Io, Memory, Task, Text}
+use Rattle.omega_text.specs.declared.refusal.Refusal.TheVariants.{Automaton, Circuit, Game, Io, Memory, Task, Text}
 use Rattle.omega_hoa_automaton.specs.Automaton.{Description, edges_of}
 use Rattle.omega_game_values.specs.Limits.{most_nodes}
 use Rattle.omega_lang_runs.specs.Places.{ArePlaces}
@@ -317,6 +317,7 @@ state_unmade a controlled leaving states ranges answers numbers e leave within a
     go Memory asking = asking
     go (Text fault) asking = absurd asking
     go (Game fault) asking = absurd asking
+    go (Circuit fault) asking = absurd asking
     go (Automaton fault) asking = absurd asking
     go Io asking = absurd asking
 

@@ -3,7 +3,7 @@ use Rattle.std.proofs.Common.{◌≡◌, ◌↔◌, inl, inr, ℕ, ◌<◌, Bool
 use Rattle.std.specs.Prelude.{IfErr, IfOk, IsTrue}
 use Rattle.std.proofs.lemmas.Option.{get_or_from_slice_get, slice_get_within}
 use Rattle.omega_text.specs.declared.refusal.Refusal.{Refusal}
-use Rattle.omega_text.specs.declared.refusal.Refusal.TheVariants.{Automaton, Game, Io, Memory, Task, Text}
+use Rattle.omega_text.specs.declared.refusal.Refusal.TheVariants.{Automaton, Circuit, Game, Io, Memory, Task, Text}
 use Rattle.omega_hoa_label.specs.Label.{LabelTree}
 use Rattle.omega_hoa_satisfiable.specs.Undecided.{IsUndecidedLabel}
 use Rattle.omega_hoa_automaton.specs.Automaton.{BodyEdge, Description, edge_at}
@@ -86,6 +86,7 @@ module _ (a : Description) (number : ℕ) (place : EdgePlace) (stands : EdgeStan
       go Memory hard = hard
       go (Text fault) hard = absurd hard
       go (Game fault) hard = absurd hard
+      go (Circuit fault) hard = absurd hard
       go (Automaton fault) hard = absurd hard
       go Io hard = absurd hard
 
@@ -98,5 +99,6 @@ module _ (a : Description) (number : ℕ) (place : EdgePlace) (stands : EdgeStan
       go Memory large = large
       go (Text fault) large = absurd large
       go (Game fault) large = absurd large
+      go (Circuit fault) large = absurd large
       go (Automaton fault) large = absurd large
       go Io large = absurd large

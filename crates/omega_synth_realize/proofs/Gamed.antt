@@ -5,7 +5,7 @@ use Rattle.std.proofs.lemmas.List.{length-map}
 use Rattle.std.proofs.lemmas.List.FromFn.{length-map-range_with_len}
 use Rattle.std.proofs.lemmas.List.Sorted.{length_permutation}
 use Rattle.omega_text.specs.declared.refusal.Refusal.{Refusal}
-use Rattle.omega_text.specs.declared.refusal.Refusal.TheVariants.{Automaton, Game, Io, Memory, Task, Text}
+use Rattle.omega_text.specs.declared.refusal.Refusal.TheVariants.{Automaton, Circuit, Game, Io, Memory, Task, Text}
 use Rattle.omega_text.specs.declared.refusal.game.GameFault.{GameFault}
 use Rattle.omega_text.specs.declared.refusal.game.GameFault.TheVariants.{DuplicateNode, HeaderTooSmall, TooManyEdges, TooManyNodes, UndefinedSuccessor}
 use Rattle.omega_hoa_automaton.specs.Automaton.{Description}
@@ -33,6 +33,7 @@ named_count rounds game named =
 module _ (a : Description) (controlled : List ℕ) where
   pub unparted_ungamed : (e : Refusal) → IsPartingRefusal a controlled e → IsRealizabilityGameRefusal a controlled e
   unparted_ungamed (Game fault) refused = refused
+  unparted_ungamed (Circuit fault) refused = refused
   unparted_ungamed (Task fault) refused = refused
   unparted_ungamed Memory refused = refused
   unparted_ungamed (Text fault) refused = absurd refused
@@ -42,6 +43,7 @@ module _ (a : Description) (controlled : List ℕ) where
   pub rounds_ungamed : (rounds : Rounds) (letters : List (List ℕ)) (start : ℕ) → IsParted a controlled rounds letters start → IsJudgeable a
       → (e : Refusal) → IsRoundsRefusal rounds e → IsRealizabilityGameRefusal a controlled e
   rounds_ungamed rounds letters start parted judgeable (Game fault) refused = large a controlled rounds letters start parted judgeable fault refused
+  rounds_ungamed rounds letters start parted judgeable (Circuit fault) refused = absurd refused
   rounds_ungamed rounds letters start parted judgeable Memory refused = refused
   rounds_ungamed rounds letters start parted judgeable (Text fault) refused = absurd refused
   rounds_ungamed rounds letters start parted judgeable (Automaton fault) refused = absurd refused
@@ -58,6 +60,7 @@ module _ (a : Description) (controlled : List ℕ) where
   pub none_ungamed : {X : Type 0} (r : Result X Refusal) → IfErr r (IsRoundsRefusal no_rounds) → IfErr r (IsRealizabilityGameRefusal a controlled)
   none_ungamed (Ok x) refused = tt
   none_ungamed (Err (Game fault)) refused = absurd (none_faultless fault refused)
+  none_ungamed (Err (Circuit fault)) refused = absurd refused
   none_ungamed (Err Memory) refused = refused
   none_ungamed (Err (Text fault)) refused = absurd refused
   none_ungamed (Err (Automaton fault)) refused = absurd refused

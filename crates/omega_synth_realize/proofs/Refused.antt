@@ -2,7 +2,7 @@
 use Rattle.std.proofs.Common.{◌≡◌, ◌≢◌, inl, inr, false, true, ℕ, List, [], Result, Ok, Err, None, Some, Option, sym, subst, ap, ◌∙◌, refl, true≢false}
 use Rattle.std.specs.Prelude.{IfErr, IfOk, OnOk}
 use Rattle.omega_text.specs.declared.refusal.Refusal.{Refusal}
-use Rattle.omega_text.specs.declared.refusal.Refusal.TheVariants.{Automaton, Game, Io, Memory, Task, Text}
+use Rattle.omega_text.specs.declared.refusal.Refusal.TheVariants.{Automaton, Circuit, Game, Io, Memory, Task, Text}
 use Rattle.omega_text.specs.declared.refusal.task.TaskFault.{TaskFault}
 use Rattle.omega_text.specs.declared.refusal.task.TaskFault.TheVariants.{Budget}
 use Rattle.omega_hoa_parity_kind.specs.declared.kind.ParityKind.{ParityKind}
@@ -38,6 +38,7 @@ module _ (a : Description) where
   starts_unjudgeable plain Memory refused = absurd refused
   starts_unjudgeable plain (Text fault) refused = absurd refused
   starts_unjudgeable plain (Game fault) refused = absurd refused
+  starts_unjudgeable plain (Circuit fault) refused = absurd refused
   starts_unjudgeable plain (Automaton fault) refused = absurd refused
   starts_unjudgeable plain Io refused = absurd refused
 
@@ -46,6 +47,7 @@ module _ (a : Description) where
   kind_unjudgeable single none Memory refused = absurd refused
   kind_unjudgeable single none (Text fault) refused = absurd refused
   kind_unjudgeable single none (Game fault) refused = absurd refused
+  kind_unjudgeable single none (Circuit fault) refused = absurd refused
   kind_unjudgeable single none (Automaton fault) refused = absurd refused
   kind_unjudgeable single none Io refused = absurd refused
 
@@ -62,6 +64,7 @@ module _ (a : Description) where
   decided_unjudgeable single Memory refused decided = tt
   decided_unjudgeable single (Text fault) refused decided = absurd refused
   decided_unjudgeable single (Game fault) refused decided = absurd refused
+  decided_unjudgeable single (Circuit fault) refused decided = absurd refused
   decided_unjudgeable single (Automaton fault) refused decided = absurd refused
   decided_unjudgeable single Io refused decided = absurd refused
 
@@ -75,6 +78,7 @@ module _ (a : Description) where
   is_first_undecided Memory refused told = absurd (true≢false (sym told))
   is_first_undecided (Text fault) refused told = absurd refused
   is_first_undecided (Game fault) refused told = absurd refused
+  is_first_undecided (Circuit fault) refused told = absurd refused
   is_first_undecided (Automaton fault) refused told = absurd refused
   is_first_undecided Io refused told = absurd refused
 
@@ -88,11 +92,13 @@ module _ (a : Description) (controlled : List ℕ) where
   unjudgeable_unparted Memory refused = refused
   unjudgeable_unparted (Text fault) refused = absurd refused
   unjudgeable_unparted (Game fault) refused = absurd refused
+  unjudgeable_unparted (Circuit fault) refused = absurd refused
   unjudgeable_unparted (Automaton fault) refused = absurd refused
   unjudgeable_unparted Io refused = absurd refused
 
   pub unmade_unparted : IsPosed a → (e : Refusal) → IsRoundsOfRefusal a controlled e → IsPartingRefusal a controlled e
   unmade_unparted posed (Game fault) refused = (posed, subst (IsSizeFault a controlled) (sym refused.0) (many_nodes a controlled refused.1))
+  unmade_unparted posed (Circuit fault) refused = absurd refused
   unmade_unparted posed (Task fault) refused = unmade fault posed refused
   unmade_unparted posed Memory refused = refused
   unmade_unparted posed (Text fault) refused = absurd refused
@@ -101,6 +107,7 @@ module _ (a : Description) (controlled : List ℕ) where
 
   pub unparted_unrealized : (budget : ℕ) (e : Refusal) → IsPartingRefusal a controlled e → IsRealizabilityRefusal a controlled budget e
   unparted_unrealized budget (Game fault) refused = refused
+  unparted_unrealized budget (Circuit fault) refused = refused
   unparted_unrealized budget (Task fault) refused = inl refused
   unparted_unrealized budget Memory refused = refused
   unparted_unrealized budget (Text fault) refused = absurd refused
@@ -111,6 +118,7 @@ module _ (a : Description) (controlled : List ℕ) where
       → IfErr r (IsRealizabilityRefusal a controlled budget)
   undecided_unrealized budget (Ok x) refused = tt
   undecided_unrealized budget (Err (Game fault)) refused = refused
+  undecided_unrealized budget (Err (Circuit fault)) refused = refused
   undecided_unrealized budget (Err (Task fault)) refused = inr refused
   undecided_unrealized budget (Err Memory) refused = refused
   undecided_unrealized budget (Err (Text fault)) refused = absurd refused
@@ -121,6 +129,7 @@ module _ (a : Description) (controlled : List ℕ) where
     pub rounds_undecided : (e : Refusal) → IsParted a controlled rounds letters start → IsJudgeable a → IsOutcomeRefusal rounds start budget e
         → IsOutcomeRefusalOf a controlled budget e
     rounds_undecided (Game fault) parted judgeable hard = large a controlled rounds letters start parted judgeable fault hard
+    rounds_undecided (Circuit fault) parted judgeable hard = absurd hard
     rounds_undecided (Task fault) parted judgeable hard = record { rounds = rounds; letters = letters; start = start; parted = parted; is = hard }
     rounds_undecided Memory parted judgeable hard = hard
     rounds_undecided (Text fault) parted judgeable hard = absurd hard

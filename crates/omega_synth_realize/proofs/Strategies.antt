@@ -5,9 +5,9 @@ use Rattle.std.proofs.lemmas.List.{length-map}
 use Rattle.std.proofs.lemmas.List.FromFn.{length-map-range_with_len}
 use Rattle.std.proofs.lemmas.List.Sorted.{length_permutation}
 use Rattle.omega_text.specs.declared.refusal.Refusal.{Refusal}
-use Rattle.omega_text.specs.declared.refusal.Refusal.TheVariants.{Automaton, Game, Io, Memory, Task, Text}
+use Rattle.omega_text.specs.declared.refusal.Refusal.TheVariants.{Automaton, Circuit, Game, Io, Memory, Task, Text}
 use Rattle.omega_game_values.specs.Building.{specified}
-use Rattle.omega_text.specs.declared.refusal.task.TaskFault.TheVariants.{BadSolution, Budget, Controllable, NotDeterministic, NotParity, TooLarge, TooManyPropositions, TooWide, UniversalBranch, UnknownNode}
+use Rattle.omega_text.specs.declared.refusal.task.TaskFault.TheVariants.{BadSolution, Budget, Controllable, NotDeterministic, NotParity, TooLarge, TooManyPropositions, TooWide, UniversalBranch, Unjudged, UnknownNode}
 use Rattle.omega_game_values.specs.Game.{IsGame, Node, priorities}
 use Rattle.omega_game_values.specs.Laws.{ChoicesAreEntries}
 use Rattle.omega_game_values.specs.Solution.{IsExactSolution, choices_of, winner_at}
@@ -59,6 +59,7 @@ pub player_refused : (e : Refusal) (game : List Node) (player : Player) (start b
     → (GoesOnAfter game player budget → IsBudgetShort game start budget) → IsSolvingRefusal game player budget e → IsLiftingRefusal game start budget e
 player_refused (Text fault) game player start budget narrow spent refused = absurd refused
 player_refused (Game fault) game player start budget narrow spent refused = absurd refused
+player_refused (Circuit fault) game player start budget narrow spent refused = absurd refused
 player_refused (Automaton fault) game player start budget narrow spent refused = absurd refused
 player_refused (Task TooWide) game player start budget narrow spent refused = (player, refused)
 player_refused (Task Budget) game player start budget narrow spent refused = (narrow, spent refused.1)
@@ -69,6 +70,7 @@ player_refused (Task BadSolution) game player start budget narrow spent refused 
 player_refused (Task UnknownNode) game player start budget narrow spent refused = refused
 player_refused (Task TooLarge) game player start budget narrow spent refused = refused
 player_refused (Task Controllable) game player start budget narrow spent refused = refused
+player_refused (Task Unjudged) game player start budget narrow spent refused = refused
 player_refused (Task (NotDeterministic state)) game player start budget narrow spent refused = refused
 player_refused Memory game player start budget narrow spent refused = refused
 player_refused Io game player start budget narrow spent refused = absurd refused
@@ -79,6 +81,7 @@ pub lifting_refused : (r : Result Outcome Refusal) (rounds : Rounds) (game : Lis
 lifting_refused (Ok found) rounds game start budget made refused = tt
 lifting_refused (Err (Text fault)) rounds game start budget made refused = absurd refused
 lifting_refused (Err (Game fault)) rounds game start budget made refused = absurd refused
+lifting_refused (Err (Circuit fault)) rounds game start budget made refused = absurd refused
 lifting_refused (Err (Automaton fault)) rounds game start budget made refused = absurd refused
 lifting_refused (Err (Task fault)) rounds game start budget made refused = record { game = game; game_is = made; lifting = refused }
 lifting_refused (Err Memory) rounds game start budget made refused = refused
@@ -89,6 +92,7 @@ pub wide_refused : (e : Refusal) (rounds : Rounds) (game : List Node) (start bud
     → IsOutcomeRefusal rounds start budget e
 wide_refused (Text fault) rounds game start budget made refused = absurd refused
 wide_refused (Game fault) rounds game start budget made refused = absurd refused
+wide_refused (Circuit fault) rounds game start budget made refused = absurd refused
 wide_refused (Automaton fault) rounds game start budget made refused = absurd refused
 wide_refused (Task fault) rounds game start budget made refused =
     record { game = game; game_is = made; lifting = subst (IsLiftingFault game start budget) (sym refused.0) refused.1 }

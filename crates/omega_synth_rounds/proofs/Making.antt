@@ -135,6 +135,7 @@ module _ (rounds : Rounds) (is_rounds : IsRounds rounds) where
 
   pub refusal_is : node_count rounds ≤ most_nodes → (r : Refusal) → IsBuildRefusal (table rounds) r → IsRoundsRefusal rounds r
   refusal_is fits (refusals.Game fault) refused = fault_is fits fault refused
+  refusal_is fits (refusals.Circuit fault) refused = absurd refused
   refusal_is fits refusals.Memory refused = refused
   refusal_is fits (refusals.Text fault) refused = absurd refused
   refusal_is fits (refusals.Automaton fault) refused = absurd refused

@@ -1,10 +1,11 @@
 -- What is said of a refusal, family by family: a relation over refusals names only the families that it means.
 use Rattle.omega_text.specs.declared.refusal.Refusal.{Refusal}
-use Rattle.omega_text.specs.declared.refusal.Refusal.TheVariants.{Automaton, Game, Io, Memory, Task, Text}
+use Rattle.omega_text.specs.declared.refusal.Refusal.TheVariants.{Automaton, Circuit, Game, Io, Memory, Task, Text}
 use Rattle.omega_text.specs.declared.refusal.text.TextFault.{TextFault}
 use Rattle.omega_text.specs.declared.refusal.game.GameFault.{GameFault}
 use Rattle.omega_text.specs.declared.refusal.automaton.AutomatonFault.{AutomatonFault}
 use Rattle.omega_text.specs.declared.refusal.task.TaskFault.{TaskFault}
+use Rattle.omega_text.specs.declared.refusal.circuit.CircuitFault.{CircuitFault}
 
 -- no refusal
 abbrev pub never : Refusal → Type 0
@@ -14,6 +15,7 @@ never (Automaton fault) = ⊥
 never (Task fault) = ⊥
 never Memory = ⊥
 never Io = ⊥
+never (Circuit fault) = ⊥
 
 -- a fault of a text for which this holds, or one of the others
 abbrev pub or_text : (TextFault → Type 0) → (Refusal → Type 0) → Refusal → Type 0
@@ -34,6 +36,11 @@ or_automaton holds others refusal = others refusal
 abbrev pub or_task : (TaskFault → Type 0) → (Refusal → Type 0) → Refusal → Type 0
 or_task holds others (Task fault) = holds fault
 or_task holds others refusal = others refusal
+
+-- a fault of a circuit for which this holds, or one of the others
+abbrev pub or_circuit : (CircuitFault → Type 0) → (Refusal → Type 0) → Refusal → Type 0
+or_circuit holds others (Circuit fault) = holds fault
+or_circuit holds others refusal = others refusal
 
 -- want of memory, or one of the others
 abbrev pub or_memory : (Refusal → Type 0) → Refusal → Type 0

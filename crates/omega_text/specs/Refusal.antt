@@ -1,7 +1,7 @@
 -- The number, the name and the place of each refusal.
 use Rattle.std.specs.Prelude.{ℕ, List, Option, Some, None, codes}
 use Rattle.omega_text.specs.declared.refusal.Refusal.{Refusal}
-use Rattle.omega_text.specs.declared.refusal.Refusal.TheVariants.{Automaton, Game, Io, Memory, Task, Text}
+use Rattle.omega_text.specs.declared.refusal.Refusal.TheVariants.{Automaton, Circuit, Game, Io, Memory, Task, Text}
 use Rattle.omega_text.specs.declared.refusal.text.TextFault.{TextFault}
 use Rattle.omega_text.specs.declared.refusal.text.TextFault.TheVariants.{Lex, Number, Syntax, TooLong}
 use Rattle.omega_text.specs.declared.refusal.game.GameFault.{GameFault}
@@ -17,12 +17,16 @@ use Rattle.omega_text.specs.declared.refusal.automaton.AutomatonFault.TheVariant
 use Rattle.omega_text.specs.declared.refusal.automaton.AutomatonFault.TheVariants.{StateRange, StateTwice}
 use Rattle.omega_text.specs.declared.refusal.automaton.AutomatonFault.TheVariants.{TooDeep, UnknownHeader}
 use Rattle.omega_text.specs.declared.refusal.automaton.AutomatonFault.TheVariants.{Version}
+use Rattle.omega_text.specs.declared.refusal.circuit.CircuitFault.{CircuitFault}
+use Rattle.omega_text.specs.declared.refusal.circuit.CircuitFault.TheVariants.{Cycle, Defined, LiteralRange}
+use Rattle.omega_text.specs.declared.refusal.circuit.CircuitFault.TheVariants.{Name, Properties, Reset, Symbol}
+use Rattle.omega_text.specs.declared.refusal.circuit.CircuitFault.TheVariants.{Undefined, Variables}
 use Rattle.omega_text.specs.declared.refusal.task.TaskFault.{TaskFault}
 use Rattle.omega_text.specs.declared.refusal.task.TaskFault.TheVariants.{BadSolution, Budget, Controllable}
 use Rattle.omega_text.specs.declared.refusal.task.TaskFault.TheVariants.{NotDeterministic, NotParity}
 use Rattle.omega_text.specs.declared.refusal.task.TaskFault.TheVariants.{TooLarge, TooManyPropositions}
 use Rattle.omega_text.specs.declared.refusal.task.TaskFault.TheVariants.{TooWide, UniversalBranch}
-use Rattle.omega_text.specs.declared.refusal.task.TaskFault.TheVariants.{UnknownNode}
+use Rattle.omega_text.specs.declared.refusal.task.TaskFault.TheVariants.{Unjudged, UnknownNode}
 
 -- the number of a fault of a text
 abbrev pub text_number : TextFault → ℕ
@@ -107,6 +111,7 @@ task_number UnknownNode = 54
 task_number TooLarge = 55
 task_number (NotDeterministic state) = 56
 task_number Controllable = 58
+task_number Unjudged = 59
 
 -- the name of a fault of a task
 abbrev pub task_name : TaskFault → List ℕ
@@ -120,6 +125,7 @@ task_name UnknownNode = codes "UnknownNode"
 task_name TooLarge = codes "TooLarge"
 task_name (NotDeterministic state) = codes "NotDeterministic"
 task_name Controllable = codes "Controllable"
+task_name Unjudged = codes "Unjudged"
 
 -- the number that a fault of a task has: that of a state
 abbrev pub task_place : TaskFault → Option ℕ
@@ -133,6 +139,31 @@ task_place UnknownNode = None
 task_place TooLarge = None
 task_place (NotDeterministic state) = Some state
 task_place Controllable = None
+task_place Unjudged = None
+
+-- the number of a fault of a circuit
+abbrev pub circuit_number : CircuitFault → ℕ
+circuit_number Variables = 70
+circuit_number LiteralRange = 71
+circuit_number Defined = 72
+circuit_number Undefined = 73
+circuit_number Cycle = 74
+circuit_number Reset = 75
+circuit_number Symbol = 76
+circuit_number Properties = 77
+circuit_number Name = 78
+
+-- the name of a fault of a circuit
+abbrev pub circuit_name : CircuitFault → List ℕ
+circuit_name Variables = codes "Variables"
+circuit_name LiteralRange = codes "LiteralRange"
+circuit_name Defined = codes "Defined"
+circuit_name Undefined = codes "Undefined"
+circuit_name Cycle = codes "Cycle"
+circuit_name Reset = codes "Reset"
+circuit_name Symbol = codes "Symbol"
+circuit_name Properties = codes "Properties"
+circuit_name Name = codes "Name"
 
 -- the one number of a refusal
 abbrev pub number_of : Refusal → ℕ
@@ -142,6 +173,7 @@ number_of (Automaton fault) = automaton_number fault
 number_of (Task fault) = task_number fault
 number_of Memory = 60
 number_of Io = 61
+number_of (Circuit fault) = circuit_number fault
 
 -- the one name of a refusal
 abbrev pub name_of : Refusal → List ℕ
@@ -151,6 +183,7 @@ name_of (Automaton fault) = automaton_name fault
 name_of (Task fault) = task_name fault
 name_of Memory = codes "Memory"
 name_of Io = codes "Io"
+name_of (Circuit fault) = circuit_name fault
 
 -- the place of a refusal, which only refusals of tokens and of the grammar have, or the number of its state
 abbrev pub place_of : Refusal → Option ℕ
@@ -160,3 +193,4 @@ place_of (Automaton fault) = None
 place_of (Task fault) = task_place fault
 place_of Memory = None
 place_of Io = None
+place_of (Circuit fault) = None

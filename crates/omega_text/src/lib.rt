@@ -46,7 +46,7 @@ pub use marks::Marks;
 pub use numbers::Numbers;
 pub use pg::{PgKind, next_pg_number, next_pg_token, pg_tokens};
 pub use reading::read_text;
-pub use refusal::{AutomatonFault, GameFault, Refusal, TaskFault, TextFault};
+pub use refusal::{AutomatonFault, CircuitFault, GameFault, Refusal, TaskFault, TextFault};
 pub use seq::Seq;
 pub use syntax::TextSyntax;
 pub use text_cursor::TextCursor;

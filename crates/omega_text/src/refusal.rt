@@ -1,15 +1,17 @@
 ghost use Rattle.std.specs.Prelude.{◌≡◌};
-ghost use Rattle.omega_text.specs.declared.refusal.Refusal.TheVariants.{Automaton, Game, Memory, Task, Text};
+ghost use Rattle.omega_text.specs.declared.refusal.Refusal.TheVariants.{Automaton, Circuit, Game, Memory, Task, Text};
 
 use std::alloc::{AllocError, AllocFailed};
 use thiserror::Error;
 
 mod automaton;
+mod circuit;
 mod game;
 mod task;
 mod text;
 
 pub use automaton::AutomatonFault;
+pub use circuit::CircuitFault;
 pub use game::GameFault;
 pub use task::TaskFault;
 pub use text::TextFault;
@@ -26,7 +28,7 @@ pub enum Refusal {
     /// 20 to 33: the tokens make no automaton.
     #[error(transparent)]
     Automaton(AutomatonFault),
-    /// 40 to 58: the task can't be done for this value.
+    /// 40 to 59: the task can't be done for this value.
     #[error(transparent)]
     Task(TaskFault),
     /// 60: a request for memory was refused in that call.
@@ -35,6 +37,9 @@ pub enum Refusal {
     /// 61: a read or a write of the given reader or writer failed in that call.
     #[error("a read or a write failed")]
     Io,
+    /// 70 to 78: the lines make no circuit.
+    #[error(transparent)]
+    Circuit(CircuitFault),
 }
 
 impl Refusal {
@@ -51,6 +56,7 @@ impl Refusal {
             Refusal::Task(fault) => fault.number(),
             Refusal::Memory => 60,
             Refusal::Io => 61,
+            Refusal::Circuit(fault) => fault.number(),
         }
     }
 
@@ -65,6 +71,7 @@ impl Refusal {
             Refusal::Task(fault) => fault.name(),
             Refusal::Memory => "Memory",
             Refusal::Io => "Io",
+            Refusal::Circuit(fault) => fault.name(),
         }
     }
 
@@ -110,6 +117,14 @@ impl From<TaskFault> for Refusal {
 
     fn from(fault: TaskFault) -> Refusal {
         Refusal::Task(fault)
+    }
+}
+
+impl From<CircuitFault> for Refusal {
+    ghost from_gives = { λ fault e. e ≡ Circuit fault };
+
+    fn from(fault: CircuitFault) -> Refusal {
+        Refusal::Circuit(fault)
     }
 }
 

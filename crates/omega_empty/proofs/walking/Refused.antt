@@ -1,7 +1,7 @@
 -- Refusals of deciding: those of the emptiness game, and those of solving it.
 use Rattle.std.proofs.Common.{◌≡◌, ℕ, List, Ok, Err, Result, IfOk, IfErr, IsErrAnd, IsOk, OnOk, false, inl, inr, refl, subst, sym}
 use Rattle.omega_text.specs.declared.refusal.Refusal.{Refusal}
-use Rattle.omega_text.specs.declared.refusal.Refusal.TheVariants.{Automaton, Game, Io, Memory, Task, Text}
+use Rattle.omega_text.specs.declared.refusal.Refusal.TheVariants.{Automaton, Circuit, Game, Io, Memory, Task, Text}
 use Rattle.omega_hoa_automaton.specs.Automaton.{Description}
 use Rattle.omega_game_values.specs.Game.{Node, priorities}
 use Rattle.omega_game_values.specs.declared.player.Player.TheVariants.{Zero}
@@ -28,6 +28,7 @@ on_ok (Err refusal) wanted holds = tt
 pub ungiven_refused : (a : Description) (budget : ℕ) (refusal : Refusal) → IsGameRefusal a refusal → IsEmptinessRefusal a budget refusal
 ungiven_refused a budget (Text fault) is = is
 ungiven_refused a budget (Game fault) is = is
+ungiven_refused a budget (Circuit fault) is = is
 ungiven_refused a budget (Automaton fault) is = is
 ungiven_refused a budget (Task fault) is = inl is
 ungiven_refused a budget Memory is = tt
@@ -37,6 +38,7 @@ ungiven_refused a budget Io is = is
 pub unsolved_refused : (a : Description) (budget : ℕ) (game : List Node) (refusal : Refusal) → IsGiven a → IsEmptinessGame a game → IsSolvingRefusal game Zero budget refusal → IsEmptinessRefusal a budget refusal
 unsolved_refused a budget game (Text fault) given game_is is = is
 unsolved_refused a budget game (Game fault) given game_is is = absurd is
+unsolved_refused a budget game (Circuit fault) given game_is is = absurd is
 unsolved_refused a budget game (Automaton fault) given game_is is = is
 unsolved_refused a budget game (Task fault) given game_is is = inr (record { given = given; game = game; game_is = game_is; fault_there = is })
 unsolved_refused a budget game Memory given game_is is = tt

@@ -4,7 +4,7 @@ use Rattle.std.specs.Prelude.{Result, Ok, Err, IfOk, IfErr, OnOk}
 use Rattle.std.specs.List.Sorted.{IsPermutation}
 use Rattle.std.proofs.lemmas.List.Sorted.{IsPermutation-trans}
 use Rattle.omega_text.specs.declared.refusal.Refusal.{Refusal}
-use Rattle.omega_text.specs.declared.refusal.Refusal.TheVariants.{Automaton, Game, Io, Memory, Task, Text}
+use Rattle.omega_text.specs.declared.refusal.Refusal.TheVariants.{Automaton, Circuit, Game, Io, Memory, Task, Text}
 use Rattle.omega_game_values.specs.declared.node_spec.NodeSpec.{NodeSpec}
 use Rattle.omega_game_values.specs.Game.{Node}
 use Rattle.omega_game_values.specs.Building.{IsBuildRefusal, IsGameOf, game_fault_of}
@@ -25,6 +25,7 @@ refusal_of-rearranged : (e : Refusal) (specs sorted : List NodeSpec) → game_fa
 refusal_of-rearranged (Text fault) specs sorted same is = is
 refusal_of-rearranged (Game fault) specs sorted same is = sym same ∙ is
 refusal_of-rearranged (Automaton fault) specs sorted same is = is
+refusal_of-rearranged (Circuit fault) specs sorted same is = is
 refusal_of-rearranged (Task fault) specs sorted same is = is
 refusal_of-rearranged Memory specs sorted same is = is
 refusal_of-rearranged Io specs sorted same is = is

@@ -7,7 +7,7 @@ use Rattle.std.proofs.lemmas.Bool.{cases_lt, lt-ltb, le-ltb}
 use Rattle.std.proofs.lemmas.List.{length-map}
 use Rattle.std.proofs.lemmas.List.Sums.{sum_by-cons}
 use Rattle.omega_text.specs.declared.refusal.Refusal.{Refusal}
-use Rattle.omega_text.specs.declared.refusal.Refusal.TheVariants.{Automaton, Game, Io, Memory, Task, Text}
+use Rattle.omega_text.specs.declared.refusal.Refusal.TheVariants.{Automaton, Circuit, Game, Io, Memory, Task, Text}
 use Rattle.omega_text.specs.declared.refusal.game.GameFault.TheVariants.{DuplicateNode, UndefinedSuccessor, TooManyEdges, TooManyNodes}
 use Rattle.omega_text.specs.Limits.{most_number}
 use Rattle.omega_game_values.specs.Limits.{most_nodes, most_successors}
@@ -126,6 +126,7 @@ pub memory_alone : (specs : List NodeSpec) (refusal : Refusal) → game_fault_of
 memory_alone specs (Text fault) none is = absurd is
 memory_alone specs (Game fault) none is = absurd (cc)
 memory_alone specs (Automaton fault) none is = absurd is
+memory_alone specs (Circuit fault) none is = absurd is
 memory_alone specs (Task fault) none is = absurd is
 memory_alone specs Memory none is = refl
 memory_alone specs Io none is = absurd is

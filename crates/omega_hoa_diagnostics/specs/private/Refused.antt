@@ -1,7 +1,7 @@
 -- The fault for which a text of one automaton is refused.
 use Rattle.std.specs.Prelude.{◌≡◌, ℕ, List, Option, Some, None, Result, Ok, Err}
 use Rattle.omega_text.specs.declared.refusal.Refusal.{Refusal}
-use Rattle.omega_text.specs.declared.refusal.Refusal.TheVariants.{Automaton, Game, Io, Memory, Task, Text}
+use Rattle.omega_text.specs.declared.refusal.Refusal.TheVariants.{Automaton, Circuit, Game, Io, Memory, Task, Text}
 use Rattle.omega_text.specs.declared.refusal.automaton.AutomatonFault.{AutomatonFault}
 use Rattle.omega_hoa_syntax.specs.declared.raw_automaton.RawAutomaton.{RawAutomaton}
 use Rattle.omega_hoa_automaton.specs.Faults.{automaton_fault_of}
@@ -27,6 +27,7 @@ IsFaultOf text (Some fault) = IsRefusedFor text fault
 abbrev pub fault_in : Refusal → Result (Option AutomatonFault) Refusal
 fault_in (Text fault) = Ok None
 fault_in (Game fault) = Ok None
+fault_in (Circuit fault) = Ok None
 fault_in (Automaton fault) = Ok (Some fault)
 fault_in (Task fault) = Ok None
 fault_in Memory = Err Memory

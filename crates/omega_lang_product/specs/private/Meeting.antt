@@ -5,7 +5,7 @@ use Rattle.omega_text.specs.declared.refusal.task.TaskFault.TheVariants.{BadSolu
 use Rattle.omega_text.specs.declared.refusal.task.TaskFault.TheVariants.{NotDeterministic, NotParity}
 use Rattle.omega_text.specs.declared.refusal.task.TaskFault.TheVariants.{TooLarge, TooManyPropositions}
 use Rattle.omega_text.specs.declared.refusal.task.TaskFault.TheVariants.{TooWide, UniversalBranch}
-use Rattle.omega_text.specs.declared.refusal.task.TaskFault.TheVariants.{UnknownNode}
+use Rattle.omega_text.specs.declared.refusal.task.TaskFault.TheVariants.{Unjudged, UnknownNode}
 use Rattle.omega_hoa_edges.specs.Labels.{valuation_label}
 use Rattle.omega_hoa_label.specs.Label.{conjunction}
 use Rattle.omega_hoa_label.specs.Renumbering.{relabelled}
@@ -29,6 +29,7 @@ IsUnmet plain_edge other Budget = ⊥
 IsUnmet plain_edge other BadSolution = ⊥
 IsUnmet plain_edge other UnknownNode = ⊥
 IsUnmet plain_edge other Controllable = ⊥
+IsUnmet plain_edge other Unjudged = ⊥
 IsUnmet plain_edge other TooLarge = FitsALabel (conjunction plain_edge.label other.label) → ⊥
 IsUnmet plain_edge other (NotDeterministic state) = ⊥
 

@@ -1,7 +1,7 @@
 -- What is built of the specifications of a text.
 use Rattle.std.proofs.Common.{◌≡◌, ℕ, ◌<◌, ◌≤◌, nat_lt, inl, inr, Bool, true, false, Option, Some, None, List, [], ◌∷◌, length, refl, sym, ◌∙◌, subst, Result, Ok, Err, IfOk, IfErr}
 use Rattle.omega_text.specs.declared.refusal.Refusal.{Refusal}
-use Rattle.omega_text.specs.declared.refusal.Refusal.TheVariants.{Automaton, Game, Io, Memory, Task, Text}
+use Rattle.omega_text.specs.declared.refusal.Refusal.TheVariants.{Automaton, Circuit, Game, Io, Memory, Task, Text}
 use Rattle.std.specs.Prelude.{if◌then◌else◌}
 use Rattle.std.specs.List.{list_any}
 use Rattle.std.proofs.lemmas.Bool.{ltb-false, or_parts}
@@ -49,6 +49,7 @@ pub refused_unread : (source : List ℕ) (refusal : Refusal) → or_text (IsText
 refused_unread source (Text fault) refused = inr refused
 refused_unread source (Game fault) refused = absurd refused
 refused_unread source (Automaton fault) refused = absurd refused
+refused_unread source (Circuit fault) refused = absurd refused
 refused_unread source (Task fault) refused = absurd refused
 refused_unread source Memory refused = inl refl
 refused_unread source Io refused = absurd refused
@@ -64,6 +65,7 @@ refused_built source state (Game fault) read refused = inr (record {
   fault_there = subst (λ small. fault_with small state.specs ≡ Some fault) (small_from_run (symbols_of read.lexemes) state read.all_taken.0) refused;
 })
 refused_built source state (Automaton fault) read refused = absurd refused
+refused_built source state (Circuit fault) read refused = absurd refused
 refused_built source state (Task fault) read refused = absurd refused
 refused_built source state Memory read refused = inl refl
 refused_built source state Io read refused = absurd refused

@@ -6,7 +6,7 @@ use Rattle.std.proofs.lemmas.List.Elements.{All-head, All-tail}
 use Rattle.omega_text.specs.Cut.{CutsAreOne}
 use Rattle.omega_text.specs.Syntax.{TextFaultsAreOne, TextsHaveNoFault}
 use Rattle.omega_text.specs.pg.Format.{pg_format}
-use Rattle.omega_text.specs.declared.refusal.Refusal.TheVariants.{Automaton, Game, Io, Memory, Task, Text}
+use Rattle.omega_text.specs.declared.refusal.Refusal.TheVariants.{Automaton, Circuit, Game, Io, Memory, Task, Text}
 use Rattle.omega_text.specs.declared.refusal.game.GameFault.{GameFault}
 use Rattle.omega_game_values.specs.Building.{IsGameOf, game_fault_of, fault_with}
 use Rattle.omega_game_values.specs.Laws.{GamesHaveNoFault, SpecificationsHaveOneGame}
@@ -48,6 +48,7 @@ games_apart cuts none faultless source game (Game fault) text refused =
     let clash : ◌≡◌ {A = Option GameFault} (Some fault) None = sym refused.fault_there ∙ ap fault_in (sym same) ∙ no_fault in
     cc
 games_apart cuts none faultless source game (Automaton fault) text refused = refused
+games_apart cuts none faultless source game (Circuit fault) text refused = refused
 games_apart cuts none faultless source game (Task fault) text refused = refused
 games_apart cuts none faultless source game Memory text refused = refused
 games_apart cuts none faultless source game Io text refused = refused
@@ -62,14 +63,17 @@ refusals_one cuts same none source (Game a) (Game b) x y =
     let faults : ◌≡◌ {A = Option GameFault} (Some a) (Some b) = sym x.fault_there ∙ ap fault_in raws ∙ y.fault_there in
     cc
 refusals_one cuts same none source (Automaton a) other x y = absurd x
+refusals_one cuts same none source (Circuit a) other x y = absurd x
 refusals_one cuts same none source (Task a) other x y = absurd x
 refusals_one cuts same none source Memory other x y = absurd x
 refusals_one cuts same none source Io other x y = absurd x
 refusals_one cuts same none source (Text a) (Automaton b) x y = absurd y
+refusals_one cuts same none source (Text a) (Circuit b) x y = absurd y
 refusals_one cuts same none source (Text a) (Task b) x y = absurd y
 refusals_one cuts same none source (Text a) Memory x y = absurd y
 refusals_one cuts same none source (Text a) Io x y = absurd y
 refusals_one cuts same none source (Game a) (Automaton b) x y = absurd y
+refusals_one cuts same none source (Game a) (Circuit b) x y = absurd y
 refusals_one cuts same none source (Game a) (Task b) x y = absurd y
 refusals_one cuts same none source (Game a) Memory x y = absurd y
 refusals_one cuts same none source (Game a) Io x y = absurd y

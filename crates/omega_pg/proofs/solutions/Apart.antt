@@ -13,7 +13,7 @@ use Rattle.omega_text.specs.Cases.{never, or_task, or_text}
 use Rattle.omega_text.specs.Syntax.{IsTextFault, TextFaultsAreOne, TextsHaveNoFault}
 use Rattle.omega_text.specs.pg.Format.{pg_format}
 use Rattle.omega_text.specs.declared.refusal.Refusal.{Refusal}
-use Rattle.omega_text.specs.declared.refusal.Refusal.TheVariants.{Automaton, Game, Io, Memory, Task, Text}
+use Rattle.omega_text.specs.declared.refusal.Refusal.TheVariants.{Automaton, Circuit, Game, Io, Memory, Task, Text}
 use Rattle.omega_text.specs.declared.refusal.task.TaskFault.TheVariants.{BadSolution}
 use Rattle.omega_text.specs.declared.refusal.text.TextFault.{TextFault}
 use Rattle.omega_game_values.specs.Game.{IsGame, Node, identifiers, no_node, owner_at, successors_at, identifier_at}
@@ -86,6 +86,7 @@ solutions_apart cuts none nodes source solution (Text fault) text refused =
     none source (raw_solution nodes solution) fault text.short text.writes refused
 solutions_apart cuts none nodes source solution (Game fault) text refused = refused
 solutions_apart cuts none nodes source solution (Automaton fault) text refused = refused
+solutions_apart cuts none nodes source solution (Circuit fault) text refused = refused
 solutions_apart cuts none nodes source solution (Task fault) text refused =
     let bad = refused.1 in
     let same : bad.raw ≡ raw_solution nodes solution = texts_one decides_solutions cuts source bad.raw (raw_solution nodes solution) bad.writes text.writes in
@@ -104,10 +105,12 @@ refusals_one_by source IsBad same none (Task a) (Text b) x y = absurd (none b x.
 refusals_one_by source IsBad same none (Task a) (Task b) x y = ap (λ fault. Task fault) (x.0 ∙ sym y.0)
 refusals_one_by source IsBad same none (Game a) other x y = absurd x
 refusals_one_by source IsBad same none (Automaton a) other x y = absurd x
+refusals_one_by source IsBad same none (Circuit a) other x y = absurd x
 refusals_one_by source IsBad same none Memory other x y = absurd x
 refusals_one_by source IsBad same none Io other x y = absurd x
 refusals_one_by source IsBad same none one (Game b) x y = absurd y
 refusals_one_by source IsBad same none one (Automaton b) x y = absurd y
+refusals_one_by source IsBad same none one (Circuit b) x y = absurd y
 refusals_one_by source IsBad same none one Memory x y = absurd y
 refusals_one_by source IsBad same none one Io x y = absurd y
 

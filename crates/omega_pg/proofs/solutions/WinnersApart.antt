@@ -9,7 +9,7 @@ use Rattle.omega_text.specs.Limits.{most_text}
 use Rattle.omega_text.specs.Syntax.{IsDecidable as IsDecidedSyntax, IsTextOf, TextFaultsAreOne, TextsAreReadOrFaulty, TextsHaveNoFault}
 use Rattle.omega_text.specs.pg.Format.{pg_format}
 use Rattle.omega_text.specs.declared.refusal.Refusal.{Refusal}
-use Rattle.omega_text.specs.declared.refusal.Refusal.TheVariants.{Automaton, Game, Io, Memory, Task, Text}
+use Rattle.omega_text.specs.declared.refusal.Refusal.TheVariants.{Automaton, Circuit, Game, Io, Memory, Task, Text}
 use Rattle.omega_text.specs.declared.refusal.task.TaskFault.TheVariants.{BadSolution}
 use Rattle.omega_game_values.specs.Game.{Node, greatest_identifier, identifiers}
 use Rattle.omega_game_values.specs.Solution.{winner_at}
@@ -44,6 +44,7 @@ pub winners_apart : CutsAreOne pg_format → TextsHaveNoFault solution_syntax �
 winners_apart cuts none nodes source winners (Text fault) text refused = none source text.raw fault text.short text.writes refused
 winners_apart cuts none nodes source winners (Game fault) text refused = refused
 winners_apart cuts none nodes source winners (Automaton fault) text refused = refused
+winners_apart cuts none nodes source winners (Circuit fault) text refused = refused
 winners_apart cuts none nodes source winners (Task fault) text refused =
     let bad = refused.1 in
     let same : bad.raw ≡ text.raw = texts_one decides_solutions cuts source bad.raw text.raw bad.writes text.writes in

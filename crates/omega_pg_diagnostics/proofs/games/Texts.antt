@@ -18,7 +18,7 @@ use Rattle.omega_text.specs.Syntax.{IsTextOf, TextsHaveNoFault, TokensComplete}
 use Rattle.omega_text.specs.pg.Format.{pg_format}
 use Rattle.omega_text.specs.declared.pg.kind.PgKind.{PgKind}
 use Rattle.omega_text.specs.declared.refusal.Refusal.{Refusal}
-use Rattle.omega_text.specs.declared.refusal.Refusal.TheVariants.{Automaton, Game, Io, Memory, Task, Text}
+use Rattle.omega_text.specs.declared.refusal.Refusal.TheVariants.{Automaton, Circuit, Game, Io, Memory, Task, Text}
 
 -- what is read of the tokens of a text is what is written
 pub text_is_kept : (source : List ℕ) (lexemes : List (Lexeme PgKind)) (written : Written) (raw : RawGame) → CutsAreOne pg_format → IsCut pg_format source lexemes
@@ -51,7 +51,9 @@ refusal_tells source (Text fault) law (inr faulty) = (λ t. cc, λ written. absu
 refusal_tells source (Game fault) law (inl e) = cc
 refusal_tells source (Game fault) law (inr text) = (λ t. record { short = text.short; raw = text.raw; writes = text.writes }, λ w. refl)
 refusal_tells source (Automaton fault) law (inl e) = cc
+refusal_tells source (Circuit fault) law (inl e) = cc
 refusal_tells source (Automaton fault) law (inr none) = absurd none
+refusal_tells source (Circuit fault) law (inr none) = absurd none
 refusal_tells source (Task fault) law (inl e) = cc
 refusal_tells source (Task fault) law (inr none) = absurd none
 refusal_tells source Memory law why = tt

@@ -9,7 +9,7 @@ use Rattle.omega_text.specs.Syntax.{IsTextOf, TextsHaveNoFault, TokensBegin, Tok
 use Rattle.omega_text.specs.pg.Format.{pg_format}
 use Rattle.omega_text.specs.declared.pg.kind.PgKind.{PgKind}
 use Rattle.omega_text.specs.declared.refusal.Refusal.{Refusal}
-use Rattle.omega_text.specs.declared.refusal.Refusal.TheVariants.{Automaton, Game, Io, Memory, Task, Text}
+use Rattle.omega_text.specs.declared.refusal.Refusal.TheVariants.{Automaton, Circuit, Game, Io, Memory, Task, Text}
 
 -- one token more is one step more
 run_more : {State : Type 0} (step : State → PgSymbol → State) (start : State) (lexemes : List (Lexeme PgKind)) (lexeme : Lexeme PgKind)
@@ -41,6 +41,7 @@ only_memory (Ok value) source law short text why = tt
 only_memory (Err (Text fault)) source law short text why = absurd (law source tt fault short text why)
 only_memory (Err (Game fault)) source law short text why = absurd why
 only_memory (Err (Automaton fault)) source law short text why = absurd why
+only_memory (Err (Circuit fault)) source law short text why = absurd why
 only_memory (Err (Task fault)) source law short text why = absurd why
 only_memory (Err Memory) source law short text why = refl
 only_memory (Err Io) source law short text why = absurd why

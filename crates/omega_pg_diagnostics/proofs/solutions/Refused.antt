@@ -13,7 +13,7 @@ use Rattle.omega_pg_diagnostics.proofs.solutions.Faultless.{faultless, faultless
 use Rattle.omega_pg_diagnostics.proofs.solutions.Reasons.{reason-told}
 use Rattle.omega_text.specs.Syntax.{TextsHaveNoFault}
 use Rattle.omega_text.specs.declared.refusal.Refusal.{Refusal}
-use Rattle.omega_text.specs.declared.refusal.Refusal.TheVariants.{Automaton, Game, Io, Memory, Task, Text}
+use Rattle.omega_text.specs.declared.refusal.Refusal.TheVariants.{Automaton, Circuit, Game, Io, Memory, Task, Text}
 
 refused-told : TextsHaveNoFault solution_syntax → (nodes : List Node) (text line : List ℕ) → IsSolutionCause nodes text line
     → (refusal : Refusal) → IsSolutionRefusal nodes text refusal → TellsSolutionRefusal nodes text refusal line
@@ -29,6 +29,7 @@ refused-told law nodes text line cause (Text fault) refused =
     cause.unwritten (λ written. law text written.raw fault written.short written.writes refused)
 refused-told law nodes text line cause (Game fault) refused = absurd refused
 refused-told law nodes text line cause (Automaton fault) refused = absurd refused
+refused-told law nodes text line cause (Circuit fault) refused = absurd refused
 refused-told law nodes text line cause Memory refused = absurd refused
 refused-told law nodes text line cause Io refused = absurd refused
 

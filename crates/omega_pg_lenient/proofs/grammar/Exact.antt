@@ -5,7 +5,7 @@ use Rattle.omega_text.specs.Cut.{CutsAreOne}
 use Rattle.omega_text.specs.Limits.{most_text}
 use Rattle.omega_text.specs.Syntax.{IsDecidable, IsTextFault, IsTextOf, TextFaultsAreOne, TextsAreReadOrFaulty, TextsHaveNoFault}
 use Rattle.omega_text.specs.declared.refusal.Refusal.{Refusal}
-use Rattle.omega_text.specs.declared.refusal.Refusal.TheVariants.{Automaton, Game, Io, Memory, Task, Text}
+use Rattle.omega_text.specs.declared.refusal.Refusal.TheVariants.{Automaton, Circuit, Game, Io, Memory, Task, Text}
 use Rattle.omega_text.specs.declared.refusal.text.TextFault.{TextFault}
 use Rattle.omega_text.specs.declared.refusal.game.GameFault.{GameFault}
 use Rattle.omega_game_values.specs.Building.{IsGameOf, IsWellFormed, game_fault_of}
@@ -52,6 +52,7 @@ games_apart cuts none faultless source game (Game fault) text refused =
     sym refused.fault_there ∙ ap game_fault_of (sym same) ∙ faultless text.specs game text.rearranged text.limits in
     cc
 games_apart cuts none faultless source game (Automaton fault) text refused = refused
+games_apart cuts none faultless source game (Circuit fault) text refused = refused
 games_apart cuts none faultless source game (Task fault) text refused = refused
 games_apart cuts none faultless source game Memory text refused = refused
 games_apart cuts none faultless source game Io text refused = refused
@@ -66,14 +67,17 @@ refusals_one cuts same none source (Game a) (Game b) x y =
     let faults : ◌≡◌ {A = Option GameFault} (Some a) (Some b) = sym x.fault_there ∙ ap game_fault_of specs ∙ y.fault_there in
     cc
 refusals_one cuts same none source (Automaton a) other x y = absurd x
+refusals_one cuts same none source (Circuit a) other x y = absurd x
 refusals_one cuts same none source (Task a) other x y = absurd x
 refusals_one cuts same none source Memory other x y = absurd x
 refusals_one cuts same none source Io other x y = absurd x
 refusals_one cuts same none source (Text a) (Automaton b) x y = absurd y
+refusals_one cuts same none source (Text a) (Circuit b) x y = absurd y
 refusals_one cuts same none source (Text a) (Task b) x y = absurd y
 refusals_one cuts same none source (Text a) Memory x y = absurd y
 refusals_one cuts same none source (Text a) Io x y = absurd y
 refusals_one cuts same none source (Game a) (Automaton b) x y = absurd y
+refusals_one cuts same none source (Game a) (Circuit b) x y = absurd y
 refusals_one cuts same none source (Game a) (Task b) x y = absurd y
 refusals_one cuts same none source (Game a) Memory x y = absurd y
 refusals_one cuts same none source (Game a) Io x y = absurd y

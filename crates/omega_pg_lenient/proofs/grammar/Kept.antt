@@ -6,7 +6,7 @@ use Rattle.omega_text.specs.Limits.{most_text}
 use Rattle.omega_text.specs.Reading.{IsReadText}
 use Rattle.omega_text.specs.Syntax.{IsTextFault, IsTextOf, TokensComplete}
 use Rattle.omega_text.specs.declared.refusal.Refusal.{Refusal}
-use Rattle.omega_text.specs.declared.refusal.Refusal.TheVariants.{Automaton, Game, Io, Memory, Task, Text}
+use Rattle.omega_text.specs.declared.refusal.Refusal.TheVariants.{Automaton, Circuit, Game, Io, Memory, Task, Text}
 use Rattle.omega_game_values.specs.Building.{IsBuildRefusal, IsGameOf}
 use Rattle.omega_game_values.specs.Game.{IsWithinLimits, Node}
 use Rattle.omega_game_values.specs.declared.node_spec.NodeSpec.{NodeSpec}
@@ -62,6 +62,7 @@ unread : (source : List ℕ) (refusal : Refusal) → or_text (IsTextFault lenien
 unread source (Text fault) refused = inr refused
 unread source (Game fault) refused = absurd refused
 unread source (Automaton fault) refused = absurd refused
+unread source (Circuit fault) refused = absurd refused
 unread source (Task fault) refused = absurd refused
 unread source Memory refused = inl refl
 unread source Io refused = absurd refused
@@ -77,6 +78,7 @@ refused_built : (source : List ℕ) (specs : List NodeSpec) (refusal : Refusal) 
 refused_built source specs (Text fault) short text refused = absurd refused
 refused_built source specs (Game fault) short text refused = inr (record { short = short; specs = specs; spells = text; fault_there = refused })
 refused_built source specs (Automaton fault) short text refused = absurd refused
+refused_built source specs (Circuit fault) short text refused = absurd refused
 refused_built source specs (Task fault) short text refused = absurd refused
 refused_built source specs Memory short text refused = inl refl
 refused_built source specs Io short text refused = absurd refused

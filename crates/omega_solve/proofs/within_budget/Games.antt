@@ -7,7 +7,7 @@ use Rattle.omega_game_values.specs.Bound.{bound_of}
 use Rattle.omega_game_values.specs.Game.{Node, HasEdge, no_node, node_at, priorities, successors_at}
 use Rattle.omega_game_values.proofs.elements.Membership.{Contains-nothing, Contains-under, map-Contains, map-map, map_same}
 use Rattle.omega_text.specs.declared.refusal.Refusal.{Refusal}
-use Rattle.omega_text.specs.declared.refusal.Refusal.TheVariants.{Automaton, Game, Io, Memory, Task, Text}
+use Rattle.omega_text.specs.declared.refusal.Refusal.TheVariants.{Automaton, Circuit, Game, Io, Memory, Task, Text}
 use Rattle.omega_measure.specs.Limits.{most_cells}
 use Rattle.omega_measure.specs.Table.{IsPrepareRefusal, is_too_wide}
 use Rattle.omega_solve.specs.budget.Reordering.{IsMoved, IsReordering}
@@ -125,4 +125,5 @@ refusals_same nodes other positions places reordering player (Err Memory) refuse
 refusals_same nodes other positions places reordering player (Err (Text fault)) refused = refused
 refusals_same nodes other positions places reordering player (Err (Game fault)) refused = refused
 refusals_same nodes other positions places reordering player (Err (Automaton fault)) refused = refused
+refusals_same nodes other positions places reordering player (Err (Circuit fault)) refused = refused
 refusals_same nodes other positions places reordering player (Err Io) refused = refused

@@ -3,7 +3,7 @@ use Rattle.std.proofs.Common.{◌≡◌, ◌↔◌, ◌+◌, ◌*◌, ◌<◌, �
 use Rattle.std.specs.Result.{IsErrAnd}
 use Rattle.std.proofs.lemmas.Bool.{cases_Bool}
 use Rattle.omega_text.specs.declared.refusal.Refusal.{Refusal}
-use Rattle.omega_text.specs.declared.refusal.Refusal.TheVariants.{Automaton, Game, Io, Memory, Task, Text}
+use Rattle.omega_text.specs.declared.refusal.Refusal.TheVariants.{Automaton, Circuit, Game, Io, Memory, Task, Text}
 use Rattle.omega_game_values.specs.declared.player.Player.{Player}
 use Rattle.omega_game_values.specs.Bound.{bound_of}
 use Rattle.omega_game_values.specs.Game.{IsGame, Node, priorities}
@@ -223,6 +223,7 @@ refused_where_narrow nodes player budget Memory narrow refused = tt
 refused_where_narrow nodes player budget (Text fault) narrow refused = refused
 refused_where_narrow nodes player budget (Game fault) narrow refused = refused
 refused_where_narrow nodes player budget (Automaton fault) narrow refused = refused
+refused_where_narrow nodes player budget (Circuit fault) narrow refused = refused
 refused_where_narrow nodes player budget Io narrow refused = refused
 
 -- what refuses a table refuses to solve the game, before a run is made
@@ -233,6 +234,7 @@ refused_where_wide nodes player budget Memory refused = tt
 refused_where_wide nodes player budget (Text fault) refused = refused
 refused_where_wide nodes player budget (Game fault) refused = refused
 refused_where_wide nodes player budget (Automaton fault) refused = refused
+refused_where_wide nodes player budget (Circuit fault) refused = refused
 refused_where_wide nodes player budget Io refused = refused
 
 pub comes_before : (numbers : List ℕ) (player : Player) (refusal : Refusal) → IsPrepareRefusal player numbers refusal → ComesBefore refusal
@@ -241,6 +243,7 @@ comes_before numbers player Memory refused = tt
 comes_before numbers player (Text fault) refused = refused
 comes_before numbers player (Game fault) refused = refused
 comes_before numbers player (Automaton fault) refused = refused
+comes_before numbers player (Circuit fault) refused = refused
 comes_before numbers player Io refused = refused
 
 -- so for results

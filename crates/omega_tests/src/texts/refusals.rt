@@ -1,10 +1,10 @@
 //! What refusals report, and the texts by which they display themselves.
 use crate::rows::assert_row;
-use omega_text::{AutomatonFault, GameFault, Refusal, TaskFault, TextFault};
+use omega_text::{AutomatonFault, CircuitFault, GameFault, Refusal, TaskFault, TextFault};
 use std::alloc::{AllocError, Global};
 
 // Each refusal with its number, its name, its place and the text that it prints.
-static ROWS: [(Refusal, u32, &str, Option<usize>, &str); 35] = [
+static ROWS: [(Refusal, u32, &str, Option<usize>, &str); 45] = [
     (
         Refusal::Text(TextFault::Lex { at: 9 }),
         1,
@@ -236,8 +236,78 @@ static ROWS: [(Refusal, u32, &str, Option<usize>, &str); 35] = [
         None,
         "controllable-AP: is missing, repeats, or names a proposition twice or one that there is not",
     ),
+    (
+        Refusal::Task(TaskFault::Unjudged),
+        59,
+        "Unjudged",
+        None,
+        "what was found is not what was asked for: a fault of the program",
+    ),
     (Refusal::Memory, 60, "Memory", None, "out of memory"),
     (Refusal::Io, 61, "Io", None, "a read or a write failed"),
+    (
+        Refusal::Circuit(CircuitFault::Variables),
+        70,
+        "Variables",
+        None,
+        "the counts do not fit the greatest variable, or that is over 16777216",
+    ),
+    (
+        Refusal::Circuit(CircuitFault::LiteralRange),
+        71,
+        "LiteralRange",
+        None,
+        "a literal is over that of the greatest variable",
+    ),
+    (
+        Refusal::Circuit(CircuitFault::Defined),
+        72,
+        "Defined",
+        None,
+        "an input, a latch or a gate is negated, constant, or defined twice",
+    ),
+    (
+        Refusal::Circuit(CircuitFault::Undefined),
+        73,
+        "Undefined",
+        None,
+        "a literal is used that nothing defines",
+    ),
+    (
+        Refusal::Circuit(CircuitFault::Cycle),
+        74,
+        "Cycle",
+        None,
+        "a gate uses itself",
+    ),
+    (
+        Refusal::Circuit(CircuitFault::Reset),
+        75,
+        "Reset",
+        None,
+        "the reset of a latch is neither 0 nor 1",
+    ),
+    (
+        Refusal::Circuit(CircuitFault::Symbol),
+        76,
+        "Symbol",
+        None,
+        "a symbol names what there is not, or names something twice",
+    ),
+    (
+        Refusal::Circuit(CircuitFault::Properties),
+        77,
+        "Properties",
+        None,
+        "there are bad states, constraints, justice properties or fairness constraints",
+    ),
+    (
+        Refusal::Circuit(CircuitFault::Name),
+        78,
+        "Name",
+        None,
+        "a name of an input or an output cannot be written",
+    ),
 ];
 
 fn is_reported(refusal: Refusal, number: u32, name: &str, at: Option<usize>) -> bool {

@@ -35,6 +35,9 @@ pub enum TaskFault {
     /// 58: `controllable-AP:` is missing or stands twice, or names a proposition twice or one that there is not.
     #[error("controllable-AP: is missing, repeats, or names a proposition twice or one that there is not")]
     Controllable,
+    /// 59: what a search found is not what was asked for, which is a fault of the program.
+    #[error("what was found is not what was asked for: a fault of the program")]
+    Unjudged,
 }
 
 impl TaskFault {
@@ -55,6 +58,7 @@ impl TaskFault {
             TaskFault::TooLarge => 55,
             TaskFault::NotDeterministic(_) => 56,
             TaskFault::Controllable => 58,
+            TaskFault::Unjudged => 59,
         }
     }
 
@@ -73,6 +77,7 @@ impl TaskFault {
             TaskFault::TooLarge => "TooLarge",
             TaskFault::NotDeterministic(_) => "NotDeterministic",
             TaskFault::Controllable => "Controllable",
+            TaskFault::Unjudged => "Unjudged",
         }
     }
 

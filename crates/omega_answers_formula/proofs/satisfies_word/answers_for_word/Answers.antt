@@ -8,7 +8,7 @@ use Rattle.omega_ltl_satisfaction.specs.WordRefusing.{oversized}
 use Rattle.omega_answers.specs.TwoTexts.{OfBoth}
 use Rattle.omega_text.specs.Cases.{or_memory}
 use Rattle.omega_text.specs.declared.refusal.Refusal.{Refusal}
-use Rattle.omega_text.specs.declared.refusal.Refusal.TheVariants.{Automaton, Game, Io, Memory, Task, Text}
+use Rattle.omega_text.specs.declared.refusal.Refusal.TheVariants.{Automaton, Circuit, Game, Io, Memory, Task, Text}
 use Rattle.omega_answers_formula.specs.Formula.{IsFormulaOfText}
 use Rattle.omega_answers_formula.specs.InTurn.{IsFirstRefused, IsFirstUnread, IsInputUnread}
 use Rattle.omega_answers_formula.specs.SatisfiesWord.{IsWordTextRefused, IsWordTextVerdict}
@@ -22,6 +22,7 @@ only_memory : (own other : Refusal → Type 0) → ((refusal : Refusal) → own 
 only_memory own other never memory (Text fault) is = absurd (never (Text fault) is)
 only_memory own other never memory (Game fault) is = absurd (never (Game fault) is)
 only_memory own other never memory (Automaton fault) is = absurd (never (Automaton fault) is)
+only_memory own other never memory (Circuit fault) is = absurd (never (Circuit fault) is)
 only_memory own other never memory (Task fault) is = absurd (never (Task fault) is)
 only_memory own other never memory Memory is = memory
 only_memory own other never memory Io is = absurd (never Io is)
