@@ -1,9 +1,11 @@
 -- Lists of terms to which others are added.
-use Rattle.std.proofs.Common.{◌≡◌, ◌⊎◌, inl, inr, ◌<◌, ℕ, List, [], ◌∷◌, ◌++◌, length, get_or, sym, subst, ◌∙◌, arith}
+use Rattle.std.proofs.Common.{◌≡◌, ◌⊎◌, inl, inr, ◌<◌, ℕ, List, [], ◌∷◌, ◌++◌, length, get_or, sym, subst}
+use Rattle.std.proofs.Common.{◌∙◌, arith}
 use Rattle.std.specs.Prelude.{Contains}
 use Rattle.std.specs.List.{swap_remove}
 use Rattle.std.proofs.lemmas.List.{get_or_default}
-use Rattle.std.proofs.lemmas.List.Elements.{Contains-append_cases, Contains-append_left, Contains-append_right, Contains-push, Contains-push_cases}
+use Rattle.std.proofs.lemmas.List.Elements.{Contains-append_cases, Contains-append_left}
+use Rattle.std.proofs.lemmas.List.Elements.{Contains-append_right, Contains-push, Contains-push_cases}
 use Rattle.std.proofs.lemmas.List.Sorted.{Contains-permutation, IsPermutation-swap_remove, IsPermutation-sym}
 use Rattle.std.specs.List.Sorted.{IsPermutation}
 use Rattle.omega_ltl_shapes.specs.Demands.{Valuation}
@@ -13,7 +15,8 @@ use Rattle.omega_ltl_shapes.specs.declared.shape.Shape.{Shape}
 use Rattle.omega_ltl_shapes.specs.declared.term.Term.{Term}
 use Rattle.omega_ltl_terms.specs.Adding.{AddsMinimal, AddsOnly, HasGood, HasWithin, Keeps}
 use Rattle.omega_ltl_terms.specs.Products.{AddsJoins, AddsPairs}
-use Rattle.omega_ltl_terms.proofs.Within.{first_within, good_agree, good_both, has_good_within, second_within, within_itself, within_more}
+use Rattle.omega_ltl_terms.proofs.Within.{first_within, good_agree, good_both, has_good_within, second_within}
+use Rattle.omega_ltl_terms.proofs.Within.{within_itself, within_more}
 
 pub keeps_itself : (terms : List Term) → Keeps terms terms
 keeps_itself terms term h = (term, h, within_itself term)

@@ -1,23 +1,28 @@
 -- Marked demands, their parts, and the closed set that they are.
-use Rattle.std.proofs.Common.{◌≡◌, ◌⊎◌, inl, inr, ◌<◌, ◌+◌, ◌↔◌, zero, suc, ℕ, Bool, true, false, List, [], ◌∷◌, ◌++◌, length, refl, sym, ap, subst, ◌∙◌, arith, take, eqb}
+use Rattle.std.proofs.Common.{◌≡◌, ◌⊎◌, inl, inr, ◌<◌, ◌+◌, ◌↔◌, zero, suc, ℕ, Bool, true, false, List, []}
+use Rattle.std.proofs.Common.{◌∷◌, ◌++◌, length, refl, sym, ap, subst, ◌∙◌, arith, take, eqb}
 use Rattle.std.specs.Prelude.{Contains, IsTrue, if◌then◌else◌, replicate}
 use Rattle.std.proofs.Math.Seq.{take-append_seam}
 use Rattle.std.proofs.lemmas.Bool.{cases_Bool, cases_eq, cases_lt, eqb-true, false≢true, or_cases, true≢false}
 use Rattle.std.proofs.lemmas.List.{get_or-replicate, get_or_past, length-replicate}
-use Rattle.std.proofs.lemmas.List.Elements.{Contains-append_cases, Contains-append_left, Contains-append_right, Contains-push, Contains-push_cases}
+use Rattle.std.proofs.lemmas.List.Elements.{Contains-append_cases, Contains-append_left}
+use Rattle.std.proofs.lemmas.List.Elements.{Contains-append_right, Contains-push, Contains-push_cases}
 use Rattle.omega_ltl_shapes.specs.Combinations.{Says, SpeaksBelow}
 use Rattle.omega_ltl_shapes.specs.Covers.{Covers, CoversAll, Step}
 use Rattle.omega_ltl_shapes.specs.Demands.{AreTrue, IsLiteralTrue, IsTrueAt, SaysAt, Unfolds, Valuation}
 use Rattle.omega_ltl_shapes.specs.Shapes.{AreGrounded, IsShapeBelow, is_strong, shape_at}
 use Rattle.omega_ltl_shapes.specs.declared.combination.Combination.{Combination}
-use Rattle.omega_ltl_shapes.specs.declared.combination.Combination.TheVariants.{Both, Cases, Constant, Either, Literal, Same}
+use Rattle.omega_ltl_shapes.specs.declared.combination.Combination.TheVariants.{Both, Cases, Constant, Either}
+use Rattle.omega_ltl_shapes.specs.declared.combination.Combination.TheVariants.{Literal, Same}
 use Rattle.omega_ltl_shapes.specs.declared.cube.Cube.{Cube}
 use Rattle.omega_ltl_shapes.specs.declared.shape.Shape.{Shape}
 use Rattle.omega_ltl_shapes.specs.declared.shape.Shape.TheVariants.{Fix, Next, Now}
 use Rattle.omega_ltl_shapes.proofs.Covering.{folds}
 use Rattle.omega_ltl_shapes.proofs.Grounded.{shape_beyond}
-use Rattle.omega_ltl_terms.specs.Closing.{AreNeverTrue, Closes, brings, combination_parts, is_false, kept_part, parts_of, stays_closed}
-use Rattle.omega_ltl_terms.specs.private.Marking.{AddsStayed, AreParted, AreStayed, IsMarked, MarkedAreNeverTrue, MarkedAreTrue, MarksMore, MarksTrue}
+use Rattle.omega_ltl_terms.specs.Closing.{AreNeverTrue, Closes, brings, combination_parts, is_false}
+use Rattle.omega_ltl_terms.specs.Closing.{kept_part, parts_of, stays_closed}
+use Rattle.omega_ltl_terms.specs.private.Marking.{AddsStayed, AreParted, AreStayed, IsMarked}
+use Rattle.omega_ltl_terms.specs.private.Marking.{MarkedAreNeverTrue, MarkedAreTrue, MarksMore, MarksTrue}
 
 -- marks
 pub marks_none : (marked : List Bool) → MarksMore [] marked marked

@@ -1,12 +1,14 @@
 -- Terms that are put together cover combinations.
-use Rattle.std.proofs.Common.{◌≡◌, inl, inr, ◌<◌, ℕ, Bool, true, false, not, List, [], ◌∷◌, ◌++◌, length, refl, sym, subst, ◌∙◌}
+use Rattle.std.proofs.Common.{◌≡◌, inl, inr, ◌<◌, ℕ, Bool, true, false, not, List, [], ◌∷◌, ◌++◌, length}
+use Rattle.std.proofs.Common.{refl, sym, subst, ◌∙◌}
 use Rattle.std.specs.Prelude.{Contains, IsTrue}
 use Rattle.std.proofs.lemmas.Bool.{false≢true}
 use Rattle.omega_ltl_shapes.specs.Covers.{Covers, HasLiteral, is_set}
 use Rattle.omega_ltl_shapes.specs.Demands.{IsLiteralTrue, Valuation}
 use Rattle.omega_ltl_shapes.specs.Graphs.{IsGood}
 use Rattle.omega_ltl_shapes.specs.Terms.{AreContradictory, IsCubeOfBoth, IsLiteralCube, IsWithin}
-use Rattle.omega_ltl_shapes.specs.declared.combination.Combination.TheVariants.{Both, Cases, Constant, Either, Literal, Same}
+use Rattle.omega_ltl_shapes.specs.declared.combination.Combination.TheVariants.{Both, Cases, Constant, Either}
+use Rattle.omega_ltl_shapes.specs.declared.combination.Combination.TheVariants.{Literal, Same}
 use Rattle.omega_ltl_shapes.specs.declared.cube.Cube.{Cube}
 use Rattle.omega_ltl_shapes.specs.declared.shape.Shape.{Shape}
 use Rattle.omega_ltl_shapes.specs.declared.term.Term.{Term}

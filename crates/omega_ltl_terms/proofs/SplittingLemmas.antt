@@ -1,5 +1,6 @@
 -- Cubes without the letters of others, and edges that are split.
-use Rattle.std.proofs.Common.{◌≡◌, ◌⊎◌, inl, inr, ◌<◌, ◌+◌, ℕ, Bool, true, false, not, List, [], ◌∷◌, ◌++◌, length, get_or, take, refl, sym, subst, arith}
+use Rattle.std.proofs.Common.{◌≡◌, ◌⊎◌, inl, inr, ◌<◌, ◌+◌, ℕ, Bool, true, false, not, List, [], ◌∷◌, ◌++◌}
+use Rattle.std.proofs.Common.{length, get_or, take, refl, sym, subst, arith}
 use Rattle.std.specs.Prelude.{Contains, IsTrue}
 use Rattle.std.proofs.lemmas.Bool.{cases_Bool, cases_lt, not_from_false}
 use Rattle.std.proofs.lemmas.List.Elements.{Contains-append_left, Contains-push, Contains-push_cases}
@@ -12,7 +13,9 @@ use Rattle.omega_ltl_shapes.specs.declared.shape.Shape.{Shape}
 use Rattle.omega_ltl_shapes.specs.declared.term.Term.{Term}
 use Rattle.omega_ltl_shapes.proofs.ItemLemmas.{get_or_same, take_read}
 use Rattle.omega_ltl_terms.specs.Adding.{HasGood}
-use Rattle.omega_ltl_terms.specs.private.Splitting.{AddsNegation, AddsNegations, AddsParts, AddsWithout, AreLeft, AreSplit, ArePushed, AreWithout, AsksNoMore, IsCubeTrue, IsPart, SomeCubeTrue}
+use Rattle.omega_ltl_terms.specs.private.Splitting.{AddsNegation, AddsNegations, AddsParts, AddsWithout}
+use Rattle.omega_ltl_terms.specs.private.Splitting.{AreLeft, AreSplit, ArePushed, AreWithout, AsksNoMore}
+use Rattle.omega_ltl_terms.specs.private.Splitting.{IsCubeTrue, IsPart, SomeCubeTrue}
 
 pub literals_itself : (cube : Cube) → HasLiterals cube cube
 literals_itself cube name negated h = h

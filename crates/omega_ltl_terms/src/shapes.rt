@@ -3,7 +3,8 @@
 ghost use Rattle.std.specs.Prelude.{◌≡◌, ◌<◌, ◌≤◌, ◌*◌, ℕ, true, false, length, IfOk, IsOkUnless};
 ghost use Rattle.omega_ltl_formula.specs.Limits.{most_formula_nodes};
 ghost use Rattle.omega_ltl_formula.specs.Table.{IsPlaced, node_at};
-ghost use Rattle.omega_ltl_shapes.specs.Shapes.{AreGrounded, AreShapesOf, binary_shape, constant_shape, demand};
+ghost use Rattle.omega_ltl_shapes.specs.Shapes.{AreGrounded, AreShapesOf, binary_shape, constant_shape};
+ghost use Rattle.omega_ltl_shapes.specs.Shapes.{demand};
 ghost use Rattle.omega_ltl_shapes.specs.Shapes.{node_shape, unary_shape};
 ghost use Rattle.omega_ltl_shapes.specs.declared.combination.Combination.TheVariants.{Both, Cases, Constant};
 ghost use Rattle.omega_ltl_shapes.specs.declared.combination.Combination.TheVariants.{Either, Same};

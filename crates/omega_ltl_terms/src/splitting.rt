@@ -4,7 +4,8 @@ ghost use Rattle.std.specs.Prelude.{◌↔◌, ◌<◌, [], ◌∷◌, ◌++◌,
 ghost use Rattle.omega_ltl_shapes.specs.Covers.{is_set};
 ghost use Rattle.omega_ltl_shapes.specs.declared.term.Term.{Term};
 ghost use Rattle.omega_ltl_terms.specs.private.Splitting.{AddsNegation, AddsNegations, AddsParts};
-ghost use Rattle.omega_ltl_terms.specs.private.Splitting.{AddsWithout, AreLeft, ArePushed, AreSplit, AreWithout};
+ghost use Rattle.omega_ltl_terms.specs.private.Splitting.{AddsWithout, AreLeft, ArePushed, AreSplit};
+ghost use Rattle.omega_ltl_terms.specs.private.Splitting.{AreWithout};
 ghost use Rattle.omega_ltl_terms.specs.private.Splitting.{AsksNoMore, IsLesser, IsPart};
 
 use omega_ltl_shapes::{Cube, Term, has_bits_of, has_items};

@@ -1,5 +1,6 @@
 -- Demands that are marked, and their parts.
-use Rattle.std.specs.Prelude.{◌≡◌, ◌↔◌, ◌⊎◌, ◌<◌, ◌≤◌, ℕ, Bool, false, IsTrue, List, length, slice_index_or, Contains}
+use Rattle.std.specs.Prelude.{◌≡◌, ◌↔◌, ◌⊎◌, ◌<◌, ◌≤◌, ℕ, Bool, false, IsTrue, List, length, slice_index_or}
+use Rattle.std.specs.Prelude.{Contains}
 use Rattle.omega_ltl_shapes.specs.Demands.{Valuation}
 use Rattle.omega_ltl_shapes.specs.Shapes.{shape_at}
 use Rattle.omega_ltl_shapes.specs.declared.shape.Shape.{Shape}

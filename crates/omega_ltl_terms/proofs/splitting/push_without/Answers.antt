@@ -1,7 +1,8 @@
 -- the literals of one name more
 use Rattle.std.proofs.Common.{◌≡◌, ℕ, subst, sym, arith}
 use Rattle.omega_ltl_terms.specs.private.Splitting.{AddsWithout}
-use Rattle.omega_ltl_terms.proofs.SplittingLemmas.{IsSoFar, so_far_all, so_far_more, so_far_none, without_apart}
+use Rattle.omega_ltl_terms.proofs.SplittingLemmas.{IsSoFar, so_far_all, so_far_more, so_far_none}
+use Rattle.omega_ltl_terms.proofs.SplittingLemmas.{without_apart}
 use Rattle.omega_ltl_terms.proofs.splitting.push_without.Goals as goal
 
 pub loop-name-init : goal.loop-name-init
