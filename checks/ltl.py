@@ -8,9 +8,9 @@ replaced: each is read, or refused by its refusal at its place. 400 random autom
 with choices, are asked whether their words satisfy a random formula: `yes` is said only if no short word shows
 otherwise. Of `no` the lasso is an accepting one of the automaton's own edges, which `verify --automaton` confirms, and
 each word that fits the line `word` goes along it, is accepted, and does not satisfy the formula. Several formulas,
-also 400, are answered as each alone, and the first that is refused is told. Formulas stand at both sides of their
-limits; a million parentheses are read, and the program does with 128 KiB of stack on formulas 250 deep. Where `spin` is
-installed, its never claims accept the same words.
+also 400, are answered as each alone, and the first that is refused is told; `-v` tells the names that an automaton does
+not have. Formulas stand at both sides of their limits; a million parentheses are read, and the program does with
+128 KiB of stack on formulas 250 deep. Where `spin` is installed, its never claims accept the same words.
 """
 import functools
 import random
@@ -417,6 +417,16 @@ def in_turn_fault(words: list[str], text: bytes, formulas: list[bytes]) -> Fault
                     b"".join(ran.stdout for ran in alone))
 
 
+def unmentioned_fault(text: bytes, formulas: list[bytes]) -> Fault:
+    """Whether the names of formulas that an automaton does not have are told beside the same answers, or what is
+    wrong."""
+    words, known = formula_words(formulas), propositions_of(read_one(text))
+    names = [name for formula in formulas for name in names_of(read_formula(formula)) if name not in known]
+    plain = run_of(["satisfies", *words], text)
+    lines = b"".join(b'omega: the automaton has no proposition "' + name + b'"\n' for name in names)
+    return fault_of(["satisfies", "-v", *words], text, plain.returncode, plain.stdout, lines)
+
+
 def first_refused_fault(formulas: list[bytes]) -> Fault:
     """Whether the first formula that a slow reader refuses is told, or else the automaton, which is none; or what is
     wrong."""
@@ -439,6 +449,8 @@ def in_turn_checks() -> Cases:
         formulas = [systems.text(systems.tree(1 + number % 6, PLAIN)) for _ in range(3 if number % 5 == 0 else 2)]
         words = ["--explain"] if number % 2 else []
         yield f"{formulas!r} of {text!r}", partial(in_turn_fault, words, text, formulas)
+        if number % 3 == 0:
+            yield f"the names of {formulas!r} in {text!r}", partial(unmentioned_fault, text, formulas)
     for word in ("cycle{a}", "a; !b; cycle{b; a & !b}", "cycle{0}", "cycle{a | b}"):
         formulas = [systems.text(systems.tree(1 + number, PLAIN)) for number in range(6)]
         yield f"{formulas!r} of {word}", partial(in_turn_fault, ["--explain", "--word", word], b"", formulas)

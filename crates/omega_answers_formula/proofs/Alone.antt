@@ -1,10 +1,9 @@
 -- One formula that is refused.
-use Rattle.std.proofs.Common.{◌≡◌, ℕ, Bool, List, [], ◌∷◌, Option, None, Some, inl, inr, refl, sym, subst}
+use Rattle.std.proofs.Common.{ℕ, Bool, List, [], ◌∷◌, Option, None, Some, inl, inr, refl, subst}
 use Rattle.std.specs.List.{AllZip}
 use Rattle.omega_text.specs.declared.refusal.Refusal.{Refusal}
 use Rattle.omega_hoa.specs.Alone.{IsAutomatonRefusal, IsAutomatonText}
 use Rattle.omega_hoa_automaton.specs.Automaton.{Description}
-use Rattle.omega_io.specs.declared.exit.Exit.{Exit}
 use Rattle.omega_ltl_formula.specs.Table.{NumberedFormula}
 use Rattle.omega_ltl_satisfaction.specs.Refusing.{IsSatisfactionRefusal}
 use Rattle.omega_ltl_text.specs.Text.{IsFormulaTextRefusal}

@@ -1,7 +1,7 @@
 -- Formulas that are read and asked one after the other.
 use Rattle.std.proofs.Common.{◌≡◌, ℕ, ◌+◌, ◌<◌, Option, None, Some, List, [], ◌∷◌, ◌++◌, take, drop, length, get_or, refl, sym, ap, subst, ◌∙◌, append_assoc, append-nil, arith}
 use Rattle.std.specs.List.{AllZip, flat_map}
-use Rattle.std.proofs.lemmas.List.{take_more, take_all, take-append-drop, length-take-le}
+use Rattle.std.proofs.lemmas.List.{take_more, take-append-drop, length-take-le}
 use Rattle.std.proofs.lemmas.Grind.{flat_map-append}
 use Rattle.std.proofs.lemmas.Slice.Zip.{all_zipped_more}
 use Rattle.omega_text.specs.Cases.{or_memory}
@@ -10,8 +10,6 @@ use Rattle.omega_text.specs.declared.refusal.Refusal.TheVariants.{Automaton, Cir
 use Rattle.omega_io.specs.declared.exit.Exit.{Exit}
 use Rattle.omega_io.specs.declared.exit.Exit.TheVariants.{Done, No}
 use Rattle.omega_ltl_formula.specs.Table.{NumberedFormula}
-use Rattle.omega_ltl_text.specs.Text.{IsFormulaTextRefusal}
-use Rattle.omega_answers.specs.TwoTexts.{OfBoth}
 use Rattle.omega_answers_formula.specs.Formula.{IsFormulaOfText}
 use Rattle.omega_answers_formula.specs.InTurn.{AreAnswered, AreRefused, IsAbout, IsAskingRefused, IsFirstRefused, IsFirstUnread, IsNumbered, IsReadingRefused, IsRefusedBy, exit_after, later_exit}
 use Rattle.omega_answers_formula.specs.Refused.{refused_about}

@@ -6,6 +6,7 @@ pub mod Ltl
 pub mod Refused
 pub mod InTurn
 pub mod Satisfies
+pub mod Unmentioned
 pub mod SatisfiesWord
 pub mod Laws
 pub use Rattle.omega_text.specs.Cases

@@ -54,6 +54,7 @@ pub(crate) fn answers_in_turn<Q: FormulaQuestion>(
 ) -> Result<FormulaAnswers, RefusedFormulas>
     ensures answered { IfOk result (λ made.
         AreAnswered (Q.answers question.now) formulas.now made.exit made.text.items) }
+    ensures unmentioned { IfOk result (λ made. made.unmentioned.items ≡ []) }
     ensures refused { IfErr result
         (IsAskingRefused (Q.answers question.now) (Q.refuses question.now) formulas.now) }
 {
@@ -67,7 +68,11 @@ pub(crate) fn answers_in_turn<Q: FormulaQuestion>(
             }
         }
     }
-    Ok(FormulaAnswers { exit, text })
+    Ok(FormulaAnswers {
+        exit,
+        text,
+        unmentioned: Vec::new(alloc),
+    })
 }
 
 /// Appends the answer to `formula`, and returns how the program ends after it alone.

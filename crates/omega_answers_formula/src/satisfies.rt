@@ -4,8 +4,9 @@ ghost use Rattle.omega_hoa.specs.Alone.{IsAutomatonText};
 ghost use Rattle.omega_hoa_automaton.specs.Automaton.{Description};
 ghost use Rattle.omega_ltl_satisfaction.specs.Refusing.{IsSatisfactionRefusal};
 ghost use Rattle.omega_answers_formula.specs.Formula.{IsFormulaOfText};
-ghost use Rattle.omega_answers_formula.specs.InTurn.{AreAnswered};
+ghost use Rattle.omega_answers_formula.specs.InTurn.{AreAnswered, IsAskingRefused};
 ghost use Rattle.omega_answers_formula.specs.Satisfies.{AreSatisfiesAnswers, AreSatisfiesRefused};
+ghost use Rattle.omega_answers_formula.specs.Unmentioned.{AreUnmentioned, unmentioned_in};
 ghost use Rattle.omega_answers_formula.specs.Satisfies.{IsSatisfactionVerdict, IsSatisfiesAnswer};
 ghost use Rattle.omega_answers_formula.specs.Satisfies.{IsSatisfiesRefused, satisfaction_answer};
 
@@ -19,7 +20,7 @@ use omega_hoa::read_one;
 use omega_hoa_automaton::Automaton;
 use omega_io::{Exit, Refusal, Refused};
 use omega_ltl_formula::Formula;
-use omega_ltl_satisfaction::{Satisfaction, satisfies};
+use omega_ltl_satisfaction::{Satisfaction, satisfies, unmentioned_names};
 use omega_text::ByteString;
 use std::alloc::{AllocError, Global};
 
@@ -29,6 +30,8 @@ use std::alloc::{AllocError, Global};
 /// `empty` writes it, and its word: each word that fits it is accepted along the lasso and does not satisfy the
 /// formula.
 ///
+/// If `names` is set, returns too the names of each formula that no proposition of the automaton has.
+///
 /// Fails with the refusal of the first of `formulas` that is refused, or else with the [Refusal::Text] or
 /// [Refusal::Automaton] of `text`. Or else fails as `satisfies` of `omega_ltl_satisfaction` does for the first formula
 /// for which it does. Each text is read once.
@@ -37,13 +40,16 @@ pub fn satisfies_each(
     formulas: &[ByteString],
     text: &[u8],
     explain: bool,
+    names: bool,
 ) -> Result<FormulaAnswers, RefusedFormulas>
     ensures answers { IfOk result (λ made.
         AreSatisfiesAnswers formulas.now text.now explain made.exit made.text.items) }
+    ensures unmentioned { IfOk result
+        (λ made. AreUnmentioned names formulas.now text.now made.unmentioned.items) }
     ensures refused { IfErr result (AreSatisfiesRefused formulas.now text.now explain) }
 {
     match read_formulas(alloc, formulas) {
-        Ok(read) => answers_for_text(alloc, read.as_slice(), text, explain),
+        Ok(read) => answers_for_text(alloc, read.as_slice(), text, explain, names),
         Err(refused) => Err(refused),
     }
 }
@@ -55,23 +61,71 @@ fn answers_for_text(
     formulas: &[Formula],
     text: &[u8],
     explain: bool,
+    names: bool,
 ) -> Result<FormulaAnswers, RefusedFormulas>
     ensures answers { IfOk result (λ made. (a : Description) × IsAutomatonText text.now a
         × AreAnswered (λ formula. IsSatisfactionVerdict formula a explain) formulas.now
-        made.exit made.text.items) }
+        made.exit made.text.items
+        × (made.unmentioned.items ≡ unmentioned_in names formulas.now a)) }
     ensures refused { (texts : List (List ℕ)) → AllZip IsFormulaOfText texts formulas.now
         → IfErr result (AreSatisfiesRefused texts text.now explain) }
 {
     match read_one(alloc, text) {
-        Ok(automaton) => {
-            let question = OfAutomaton {
-                automaton: &automaton,
-                explain,
-            };
-            answers_in_turn::<OfAutomaton<'_>>(alloc, &question, formulas)
-        }
+        Ok(automaton) => answers_for_automaton(alloc, formulas, &automaton, explain, names),
         Err(refusal) => Err(RefusedFormulas::of(About::Input, refusal)),
     }
+}
+
+/// Returns the answers to `formulas` for `automaton`. Fails as `satisfies_each` does after the texts are read.
+fn answers_for_automaton(
+    alloc: Global,
+    formulas: &[Formula],
+    automaton: &Automaton,
+    explain: bool,
+    names: bool,
+) -> Result<FormulaAnswers, RefusedFormulas>
+    ensures answered { IfOk result (λ made.
+        AreAnswered (λ formula. IsSatisfactionVerdict formula automaton.now explain) formulas.now
+        made.exit made.text.items) }
+    ensures unmentioned { IfOk result
+        (λ made. made.unmentioned.items ≡ unmentioned_in names formulas.now automaton.now) }
+    ensures refused { IfErr result (IsAskingRefused
+        (λ formula. IsSatisfactionVerdict formula automaton.now explain)
+        (IsSatisfactionRefusal automaton.now) formulas.now) }
+{
+    let question = OfAutomaton { automaton, explain };
+    match answers_in_turn::<OfAutomaton<'_>>(alloc, &question, formulas) {
+        Ok(answers) => match unmentioned_in(alloc, names, formulas, automaton) {
+            Ok(unmentioned) => Ok(FormulaAnswers {
+                exit: answers.exit,
+                text: answers.text,
+                unmentioned,
+            }),
+            Err(_) => Err(RefusedFormulas::of_nothing(Refusal::Memory)),
+        },
+        Err(refused) => Err(refused),
+    }
+}
+
+/// If `names` is set, returns the names of each of `formulas` that no proposition of `automaton` has, and else none.
+fn unmentioned_in(
+    alloc: Global,
+    names: bool,
+    formulas: &[Formula],
+    automaton: &Automaton,
+) -> Result<Vec<ByteString>, Refusal>
+    ensures names { IfOk result
+        (λ found. found.items ≡ unmentioned_in names formulas.now automaton.now) }
+    ensures memory { IsOkUnless result Refusal.Memory }
+{
+    let mut found = Vec::new(alloc);
+    if names {
+        for formula in formulas {
+            let mut own = unmentioned_names(alloc, formula, automaton)?;
+            found.append(&mut own)?;
+        }
+    }
+    Ok(found)
 }
 
 /// Decides the same of one formula. Returns `yes` with [Exit::Done], else `no` with [Exit::No].
@@ -91,7 +145,7 @@ pub fn satisfies_texts(
     let Ok(formulas) = alone(alloc, formula) else {
         return Err(Refused::from(Refusal::Memory));
     };
-    match satisfies_each(alloc, formulas.as_slice(), text, explain) {
+    match satisfies_each(alloc, formulas.as_slice(), text, explain, false) {
         Ok(made) => Ok((made.exit, made.text)),
         Err(refused) => Err(refused.unnumbered()),
     }

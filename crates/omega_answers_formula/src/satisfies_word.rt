@@ -1,4 +1,4 @@
-ghost use Rattle.std.specs.Prelude.{◌≡◌, ◌⊎◌, ◌++◌, ℕ, List, IfErr, IfOk, IsOkUnless, OnOk};
+ghost use Rattle.std.specs.Prelude.{◌≡◌, ◌⊎◌, ◌++◌, ℕ, List, [], IfErr, IfOk, IsOkUnless, OnOk};
 ghost use Rattle.std.specs.List.{AllZip};
 ghost use Rattle.omega_answers_formula.specs.Formula.{IsFormulaOfText};
 ghost use Rattle.omega_answers_formula.specs.InTurn.{AreAnswered};
@@ -41,6 +41,7 @@ pub fn satisfies_word_each(
 ) -> Result<FormulaAnswers, RefusedFormulas>
     ensures answers { IfOk result (λ made.
         AreSatisfiesWordAnswers formulas.now word.now explain made.exit made.text.items) }
+    ensures unmentioned { IfOk result (λ made. made.unmentioned.items ≡ []) }
     ensures refused { IfErr result (AreSatisfiesWordRefused formulas.now word.now explain) }
 {
     match read_formulas(alloc, formulas) {
@@ -59,6 +60,7 @@ fn answers_for_word(
 ) -> Result<FormulaAnswers, RefusedFormulas>
     ensures answers { IfOk result (λ made.
         AreAnswered (IsWordTextVerdict text.now explain) formulas.now made.exit made.text.items) }
+    ensures unmentioned { IfOk result (λ made. made.unmentioned.items ≡ []) }
     ensures refused { (texts : List (List ℕ)) → AllZip IsFormulaOfText texts formulas.now
         → IfErr result (AreSatisfiesWordRefused texts text.now explain) }
 {

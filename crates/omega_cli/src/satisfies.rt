@@ -29,7 +29,11 @@ satisfy FORMULA.
 
 The automaton may have choices, and any acceptance. FORMULA is written as for `omega ltl`, whose help says
 what it means. A name of it is the proposition of that name. One that the automaton does not have is free,
-so a misspelt name makes no fault.
+so a misspelt name makes no fault. With --verbose a line on standard error names each such name:
+
+  $ omega satisfies -v -f 'G(request -> F grent)' system.hoa
+  no
+  omega: the automaton has no proposition \"grent\"
 
 Several formulas are answered one after the other, in the order of their options, each as if it were the
 only one. The automaton is read once. The exit status is 6 if one of the answers is `no`. If a text is

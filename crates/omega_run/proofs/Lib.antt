@@ -1,6 +1,7 @@
 -- Lemmas by theme.
 pub mod Answered
 pub mod Cut
+pub mod NameLines
 pub mod ProgressLines
 pub mod Reported
 pub mod ReportedLines

@@ -1,5 +1,5 @@
 -- What `--verbose` says besides of a refused text: one line about what is to be mended in it, its cause.
-use Rattle.std.specs.Prelude.{◌≡◌, ◌⊎◌, Bool, true, false, List, [], Option, None, Some, Result, Ok, Err, ℕ}
+use Rattle.std.specs.Prelude.{◌≡◌, ◌⊎◌, Bool, true, List, [], Option, None, Some, Result, Ok, Err, ℕ}
 use Rattle.omega_text.specs.Refusal.{place_of}
 use Rattle.omega_text.specs.declared.refusal.Refusal.{Refusal}
 use Rattle.omega_text.specs.declared.refusal.Refusal.TheVariants.{Automaton, Game, Task, Text}

@@ -1,13 +1,16 @@
 -- What is written of formulas that are asked of a text in memory: the answers, or the lines of a refusal.
 use Rattle.std.specs.Prelude.{◌≡◌, ◌++◌, ◌-◌, Bool, true, false, List, [], Option, None, Some, Result}
 use Rattle.std.specs.Prelude.{Ok, Err, ℕ, codes, decimal, length, nat_lt, slice_get, unwrap_or}
+use Rattle.std.specs.List.{flat_map}
 use Rattle.omega_text.specs.declared.refusal.Refusal.{Refusal}
 use Rattle.omega_cli_command.specs.declared.formulas.Formulas.{Formulas}
 use Rattle.omega_cli_command.specs.declared.formulas.Formulas.TheVariants.{Satisfies, SatisfiesWord}
 use Rattle.omega_io.specs.declared.exit.Exit.{Exit}
 use Rattle.omega_io.specs.declared.refused.Refused.{Refused}
+use Rattle.omega_io.specs.Exit.{status_of}
 use Rattle.omega_io.specs.Lines.{stream_lines}
 use Rattle.omega_io.specs.RefusalLine.{line_of}
+use Rattle.omega_answers_formula.specs.Unmentioned.{AreUnmentioned}
 use Rattle.omega_answers_formula.specs.declared.refused_formulas.About.{About}
 use Rattle.omega_answers_formula.specs.declared.refused_formulas.About.TheVariants.{Formula, Input, Question}
 use Rattle.omega_answers_formula.specs.declared.refused_formulas.RefusedFormulas.{RefusedFormulas}
@@ -15,7 +18,6 @@ use Rattle.omega_run.specs.AnswerWriting.{IsWritten}
 use Rattle.omega_run.specs.Causes.{IsCause, kind_asked}
 use Rattle.omega_run.specs.Formulas.{IsFormulaAnswer}
 use Rattle.omega_run.specs.Report.{ReportsBy, ReportsCause}
-use Rattle.omega_run.specs.Results.{plain}
 use Rattle.omega_run.specs.World.{KeepsOutput, Written, write_failure}
 use Rattle.omega_run.specs.declared.text_kind.TextKind.TheVariants as kind
 
@@ -39,6 +41,21 @@ about_line asked false (Some (Question number)) = []
 about_line asked true (Some (Question number)) =
     codes "omega: at formula " ++ (decimal number ++ codes "\n")
 
+-- the line for a name that the automaton does not have, and those for several
+abbrev pub name_line : List ℕ → List ℕ
+name_line name = codes "omega: the automaton has no proposition \"" ++ name ++ codes "\"\n"
+
+abbrev pub name_lines : List (List ℕ) → List ℕ
+name_lines names = flat_map name_line names
+
+-- the names that are told: with `--verbose` those of each formula, in turn, that the automaton does not have. Words
+-- leave open what they do not say, and of them none is told
+abbrev pub AreUnmentionedIn : Formulas → (verbose : Bool) → (formulas : List (List ℕ))
+    → (input : List ℕ) → List (List ℕ) → Type 0
+AreUnmentionedIn (Satisfies explain) verbose formulas input names =
+    AreUnmentioned verbose formulas input names
+AreUnmentionedIn (SatisfiesWord explain) verbose formulas input names = names ≡ []
+
 -- the lines for a refusal: one line, and with `--verbose` what it is about
 abbrev pub formula_lines : (verbose : Bool) → Formulas → (several : Bool) → Option About → Refusal
     → List ℕ
@@ -60,18 +77,27 @@ IsFormulaCause verbose asked formulas input about refusal line = line ≡ []
 
 -- ---- a run
 
--- the output was written, and what came of that was reported
-abbrev pub AreWritten : (verbose : Bool) → Exit × List ℕ → ℕ → (List ℕ → Type 0)
-    → (before after : Written) → Type 0
-AreWritten verbose reply status tells before after =
+-- what came of the output was told: the names that the automaton does not have, or why a write failed
+abbrev pub IsOutputTold : (verbose : Bool) → (names : List (List ℕ)) → Result Exit Refused → ℕ
+    → (List ℕ → Type 0) → (after : Written) → Type 0
+IsOutputTold verbose names (Ok exit) status tells after =
+    (status ≡ status_of (Ok exit)) × tells (name_lines names)
+IsOutputTold verbose names (Err refused) status tells after =
+    ReportsBy (stream_lines verbose (write_failure after)) (Err refused.refusal) status tells
+
+-- the output was written, and what came of that was told
+abbrev pub AreWritten : (verbose : Bool) → Exit × List ℕ → (names : List (List ℕ)) → ℕ
+    → (List ℕ → Type 0) → (before after : Written) → Type 0
+AreWritten verbose reply names status tells before after =
     (outcome : Result Exit Refused) × IsWritten (Ok reply) outcome before after
-    × ReportsBy (stream_lines verbose (write_failure after)) (plain outcome) status tells
+    × IsOutputTold verbose names outcome status tells after
 
 -- what was made was told: its output was written, or the lines of its refusal were
 abbrev pub IsFormulaTold : (verbose : Bool) → Formulas → (formulas : List (List ℕ)) → (input : List ℕ)
     → Result (Exit × List ℕ) RefusedFormulas → ℕ → (List ℕ → Type 0) → (before after : Written) → Type 0
 IsFormulaTold verbose asked formulas input (Ok reply) status tells before after =
-    AreWritten verbose reply status tells before after
+    (names : List (List ℕ)) × AreUnmentionedIn asked verbose formulas input names
+    × AreWritten verbose reply names status tells before after
 IsFormulaTold verbose asked formulas input (Err refused) status tells before after =
     KeepsOutput before after
     × ReportsCause (formula_lines verbose asked (nat_lt 1 (length formulas)) refused.about)

@@ -1,5 +1,5 @@
 -- A run of a command on texts that are in memory.
-use Rattle.std.specs.Prelude.{◌≡◌, ◌⊎◌, ◌++◌, Bool, true, false, List, [], Option, None, Some, Result, Err, ℕ}
+use Rattle.std.specs.Prelude.{◌⊎◌, ◌++◌, Bool, true, false, List, Option, None, Some, Result, Err, ℕ}
 use Rattle.omega_text.specs.declared.refusal.Refusal.{Refusal}
 use Rattle.omega_answers_game.specs.declared.solve.searching.Searching.{Searching}
 use Rattle.omega_answers_game.specs.solve.SearchLines.{search_lines}

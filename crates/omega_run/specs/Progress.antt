@@ -1,5 +1,5 @@
 -- The progress lines on standard error while a command lifts, and that the answer counts the lifts that they report.
-use Rattle.std.specs.Prelude.{◌≡◌, ◌++◌, ◌≤◌, Bool, false, true, List, [], Result, IfOk, ℕ, codes, decimal}
+use Rattle.std.specs.Prelude.{◌≡◌, ◌++◌, Bool, false, true, List, [], Result, IfOk, ℕ, codes, decimal}
 use Rattle.omega_text.specs.declared.refusal.Refusal.{Refusal}
 use Rattle.omega_answers_empty.specs.Observing.{LiftsAutomatonText}
 use Rattle.omega_answers_game.specs.Observing.{CountsReportedOfText, LiftsText}
@@ -13,7 +13,6 @@ use Rattle.omega_cli_command.specs.declared.one_text.OneText.TheVariants.{Empty,
 use Rattle.omega_cli_command.specs.declared.one_text.OneText.TheVariants.{Search, Solve}
 use Rattle.omega_io.specs.declared.exit.Exit.{Exit}
 use Rattle.omega_io.specs.declared.refused.Refused.{Refused}
-use Rattle.omega_io.specs.Writing.{Tells}
 use Rattle.omega_solve.specs.budget.Observing.{IsObserved, lifts_between_reports, refusal_in}
 use Rattle.omega_solve.specs.declared.budget.observing.Progress.{Progress}
 use Rattle.omega_run.specs.Answers.{Texts}

@@ -1,15 +1,17 @@
 //! Formulas that are asked of a text in memory, one after the other.
-ghost use Rattle.std.specs.Prelude.{◌≡◌, ◌⊎◌, ◌++◌, ◌-◌, ◌^◌, ◌<◌, [], Err, IfErr, IfOk};
+ghost use Rattle.std.specs.Prelude.{◌≡◌, ◌⊎◌, ◌++◌, ◌-◌, ◌^◌, ◌<◌, ◌≤◌, [], Err, IfErr, IfOk};
 ghost use Rattle.std.specs.Prelude.{IsOkUnless, OnOk, codes, decimal, length, nat_lt};
 ghost use Rattle.omega_text.specs.declared.refusal.Refusal.TheVariants.{Memory};
 ghost use Rattle.omega_run.specs.FormulaRun.{AreAsked, AreWritten, IsFormulaCause, about_line, formula_lines};
-ghost use Rattle.omega_run.specs.FormulaRun.{input_name, text_numbered};
+ghost use Rattle.omega_run.specs.FormulaRun.{AreUnmentionedIn, input_name, name_line, name_lines};
+ghost use Rattle.omega_run.specs.FormulaRun.{text_numbered};
+ghost use Rattle.omega_run.specs.private.steps.Telling.{TellsOn};
 ghost use Rattle.omega_run.specs.Formulas.{AnswersFormulas, IsUnnumbered, RefusesFormulas};
 ghost use Rattle.omega_run.specs.Report.{ReportsCause};
-ghost use Rattle.omega_run.specs.Results.{plain};
 ghost use Rattle.omega_run.specs.World.{tells_of, written_to};
 
 use crate::causes::cause_in;
+use crate::progress::tell_on;
 use crate::reporting::{line_in, report, report_lines};
 use crate::text_kind::{TextKind, kind_asked};
 use crate::writing::write_made;
@@ -17,23 +19,27 @@ use omega_answers_formula::{
     About, FormulaAnswers, RefusedFormulas, satisfies_each, satisfies_word_each,
 };
 use omega_cli_command::{ByteString, Formulas};
-use omega_io::{Exit, Output, Refusal, Refused, failure_of};
+use omega_io::{Exit, Output, Refusal, Refused, exit_code, failure_of};
 use omega_text::write_number;
 use std::alloc::Global;
 
-/// Returns what a command makes of the texts of formulas and of that of the input, or why they are refused.
-pub(crate) fn answer_formulas(
+/// Returns what a command makes of the texts of formulas and of that of the input, or why they are refused. If `names`
+/// is set, returns too the names of each formula that the automaton does not have.
+fn answer_formulas(
     alloc: Global,
     asked: Formulas,
     formulas: &[ByteString],
     input: &[u8],
+    names: bool,
 ) -> Result<FormulaAnswers, RefusedFormulas>
     ensures answered { IfOk result
         (λ made. AnswersFormulas asked formulas.now input.now made.exit made.text.items) }
+    ensures unmentioned { IfOk result
+        (λ made. AreUnmentionedIn asked names formulas.now input.now made.unmentioned.items) }
     ensures refused { IfErr result (RefusesFormulas asked formulas.now input.now) }
 {
     match asked {
-        Formulas::Satisfies { explain } => satisfies_each(alloc, formulas, input, explain),
+        Formulas::Satisfies { explain } => satisfies_each(alloc, formulas, input, explain, names),
         Formulas::SatisfiesWord { explain } => satisfies_word_each(alloc, formulas, input, explain),
     }
 }
@@ -49,7 +55,7 @@ pub(crate) fn reply_to_formulas(
         (λ made. AnswersFormulas asked formulas.now input.now made.0 made.1.items) }
     ensures refused { IfErr result (IsUnnumbered (RefusesFormulas asked formulas.now input.now)) }
 {
-    match answer_formulas(alloc, asked, formulas, input) {
+    match answer_formulas(alloc, asked, formulas, input, false) {
         Ok(made) => Ok((made.exit, made.text)),
         Err(refused) => Err(refused.unnumbered()),
     }
@@ -72,13 +78,14 @@ pub(crate) fn run_formulas<W: Output, E: Output>(
         (tells_of E.Output errors.old errors.new)
         (written_to W.Output output.old) (written_to W.Output output.new) }
 {
-    match answer_formulas(alloc, asked, formulas, input) {
+    match answer_formulas(alloc, asked, formulas, input, verbose) {
         Ok(made) => write_formula_answers(alloc, made, verbose, output, errors),
         Err(refused) => report_formulas(alloc, asked, formulas, verbose, input, refused, errors),
     }
 }
 
-/// Writes the answers to formulas, and returns the status to end with.
+/// Writes the answers to formulas, and then the lines on names that the automaton does not have, and returns the status
+/// to end with. If a write of the answers fails, the lines of that are written in their place.
 fn write_formula_answers<W: Output, E: Output>(
     alloc: Global,
     made: FormulaAnswers,
@@ -88,24 +95,46 @@ fn write_formula_answers<W: Output, E: Output>(
 ) -> u8
     requires writes { W.failed output.old < 2 ^ 64 - 1 }
     requires tells { E.failed errors.old < 2 ^ 64 - 1 }
-    ensures { AreWritten verbose (made.exit, made.text.items) result
+    ensures { AreWritten verbose (made.exit, made.text.items) made.unmentioned.items result
         (tells_of E.Output errors.old errors.new)
         (written_to W.Output output.old) (written_to W.Output output.new) }
 {
-    let FormulaAnswers { exit, text } = made;
-    let outcome = write_made(Ok((exit, text)), output);
-    let failure = failure_of(None, output);
-    report(alloc, plain(outcome), verbose, failure, errors)
+    let FormulaAnswers {
+        exit,
+        text,
+        unmentioned,
+    } = made;
+    match write_made(Ok((exit, text)), output) {
+        Ok(exit) => {
+            tell_names(errors, unmentioned.as_slice());
+            exit_code(&Ok(exit))
+        }
+        Err(refused) => {
+            let failure = failure_of(None, output);
+            report(alloc, Err(refused.refusal), verbose, failure, errors)
+        }
+    }
 }
 
-/// Returns the outcome without the text that a refusal is about.
-fn plain(outcome: Result<Exit, Refused>) -> Result<Exit, Refusal>
-    ensures { result ≡ plain outcome }
+/// Writes a line for each of these names, which takes no memory. If a write fails, none follows it.
+fn tell_names<E: Output>(errors: &mut E, names: &[ByteString])
+    requires { E.failed errors.old < 2 ^ 64 - 1 }
+    ensures { tells_of E.Output errors.old errors.new (name_lines names.now) }
 {
-    match outcome {
-        Ok(exit) => Ok(exit),
-        Err(refused) => Err(refused.refusal),
+    let sound = errors.failures();
+    for name in names {
+        tell_name(errors, sound, name);
     }
+}
+
+/// Writes that the automaton does not have this name, unless more than `sound` writes have failed.
+fn tell_name<E: Output>(errors: &mut E, sound: u64, name: &ByteString)
+    ensures { TellsOn sound (E.contents errors.old) (E.contents errors.new) (E.failed errors.old)
+        (E.failed errors.new) (name_line name.now) }
+{
+    tell_on(errors, sound, b"omega: the automaton has no proposition \"");
+    tell_on(errors, sound, name.as_slice());
+    tell_on(errors, sound, b"\"\n");
 }
 
 /// Writes the lines of a refusal of formulas, with its cause, and returns the status to end with.

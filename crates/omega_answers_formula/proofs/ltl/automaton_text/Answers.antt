@@ -1,7 +1,6 @@
 -- what is written is the canonical text of the automaton that was made, or memory is wanting
 use Rattle.std.proofs.Common.{◌∙◌, List, subst, ℕ}
 use Rattle.std.proofs.lemmas.Result.{IfErr-weaker, IfOk-weaker}
-use Rattle.omega_ltl_formula.specs.Table.{tree_of}
 use Rattle.omega_ltl_translation.specs.Translation.{HasHeader, given_name}
 use Rattle.omega_answers_formula.proofs.ltl.automaton_text.Goals as goal
 

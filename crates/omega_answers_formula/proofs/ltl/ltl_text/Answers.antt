@@ -1,8 +1,7 @@
 -- what is written or refused is that of the formula that was read
-use Rattle.std.proofs.Common.{inl, inr}
+use Rattle.std.proofs.Common.{inr}
 use Rattle.std.proofs.lemmas.Result.{IfErr-weaker, IfOk-weaker}
-use Rattle.omega_ltl_text.specs.Text.{IsFormulaTextRefusal}
-use Rattle.omega_answers.proofs.Refusals.{memory_or, or_memory_of}
+use Rattle.omega_answers.proofs.Refusals.{or_memory_of}
 use Rattle.omega_answers_formula.specs.Ltl.{IsLtlRefusal}
 use Rattle.omega_answers_formula.proofs.ltl.ltl_text.Goals as goal
 

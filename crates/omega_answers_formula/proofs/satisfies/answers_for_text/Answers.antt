@@ -1,5 +1,6 @@
 -- the automaton's text is refused, or the formulas are answered for the automaton, or one of them is refused
-use Rattle.std.proofs.lemmas.Result.{IfErr-weaker, IfOk-weaker}
+use Rattle.std.proofs.Common.{Err, IfOk, Ok, Result}
+use Rattle.std.proofs.lemmas.Result.{IfErr-weaker}
 use Rattle.omega_hoa.specs.Alone.{IsAutomatonRefusal, IsAutomatonText}
 use Rattle.omega_ltl_satisfaction.specs.Refusing.{IsSatisfactionRefusal}
 use Rattle.omega_answers.specs.TwoTexts.{OfBoth}
@@ -11,17 +12,25 @@ use Rattle.omega_answers_formula.specs.declared.refused_formulas.About.TheVarian
 use Rattle.omega_answers_formula.proofs.InTurn.{refused_asking, refused_of}
 use Rattle.omega_answers_formula.proofs.satisfies.answers_for_text.Goals as goal
 
+-- two things that hold of a value give a third
+ok_both : {T E : Type 0} (result : Result T E) (One Other Both : T → Type 0) → ((value : T) → One value → Other value → Both value)
+    → IfOk result One → IfOk result Other → IfOk result Both
+ok_both (Ok value) One Other Both both one other = both value one other
+ok_both (Err error) One Other Both both one other = tt
+
 pub returns-in-Ok-clause-answers : goal.returns-in-Ok-clause-answers
 returns-in-Ok-clause-answers c =
-    IfOk-weaker c.answers_in_turn.result _ _ (λ made answered. (c.in-Ok.automaton, c.in-Ok.ensures.automaton, answered)) c.answers_in_turn.ensures.answered
+    ok_both c.answers_for_automaton.result _ _ _
+    (λ made answered unmentioned. (c.in-Ok.automaton, c.in-Ok.ensures.automaton, answered, unmentioned))
+    c.answers_for_automaton.ensures.answered c.answers_for_automaton.ensures.unmentioned
 
 pub returns-in-Ok-clause-refused : goal.returns-in-Ok-clause-refused
 returns-in-Ok-clause-refused c = λ texts read.
-    IfErr-weaker c.answers_in_turn.result _ _
+    IfErr-weaker c.answers_for_automaton.result _ _
     (λ refused is. refused_asking (IsAutomatonText c.args.text.now) (IsAutomatonRefusal c.args.text.now)
     (λ a formula. IsSatisfactionVerdict formula a c.args.explain) IsSatisfactionRefusal texts
     c.args.formulas.now c.in-Ok.automaton read c.in-Ok.ensures.automaton refused is)
-    c.answers_in_turn.ensures.refused
+    c.answers_for_automaton.ensures.refused
 
 pub returns-in-Err-clause-refused : goal.returns-in-Err-clause-refused
 returns-in-Err-clause-refused c = λ texts read.

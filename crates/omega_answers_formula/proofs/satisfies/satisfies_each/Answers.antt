@@ -10,10 +10,22 @@ use Rattle.omega_answers_formula.proofs.satisfies.satisfies_each.Goals as goal
 pub returns-in-Ok-clause-answers : goal.returns-in-Ok-clause-answers
 returns-in-Ok-clause-answers c =
     IfOk-weaker c.answers_for_text.result _ _
-    (λ made (a, of_text, answered). answered_texts IsFormulaOfText (λ formula. IsSatisfactionVerdict formula a c.args.explain)
+    (λ made (a, of_text, answered, unmentioned). answered_texts IsFormulaOfText (λ formula. IsSatisfactionVerdict formula a c.args.explain)
     (λ formula. IsSatisfiesAnswer formula c.args.text.now c.args.explain)
     (λ text formula exit output reads verdict. record { file = formula; file_read = reads; input = a; input_read = of_text; holds = verdict })
     c.args.formulas.now c.in-Ok.read.items made.exit made.text.items c.in-Ok.ensures.read (rw c.as_slice.ensures.value at answered))
+    c.answers_for_text.ensures.answers
+
+pub returns-in-Ok-clause-unmentioned : goal.returns-in-Ok-clause-unmentioned
+returns-in-Ok-clause-unmentioned c =
+    IfOk-weaker c.answers_for_text.result _ _
+    (λ made (a, of_text, answered, unmentioned). record {
+      file = c.in-Ok.read.items;
+      file_read = c.in-Ok.ensures.read;
+      input = a;
+      input_read = of_text;
+      holds = rw c.as_slice.ensures.value at unmentioned;
+    })
     c.answers_for_text.ensures.answers
 
 pub returns-in-Ok-clause-refused : goal.returns-in-Ok-clause-refused

@@ -1,8 +1,6 @@
 -- one formula is answered as a list of it is
-use Rattle.std.proofs.Common.{[], ◌∷◌, List, ℕ, inl, refl, subst, sym}
-use Rattle.omega_io.specs.declared.exit.Exit.{Exit}
-use Rattle.omega_io.specs.declared.refused.Refused.{Refused}
-use Rattle.omega_answers_formula.specs.Satisfies.{AreSatisfiesAnswers, AreSatisfiesRefused, IsSatisfiesAnswer, IsSatisfiesRefused}
+use Rattle.std.proofs.Common.{subst, sym}
+use Rattle.omega_answers_formula.specs.Satisfies.{IsSatisfiesAnswer, IsSatisfiesRefused}
 use Rattle.omega_answers_formula.proofs.Alone.{refused_alone}
 use Rattle.omega_answers_formula.proofs.InTurn.{answered_alone}
 use Rattle.omega_answers_formula.proofs.satisfies.satisfies_texts.Goals as goal

@@ -6,3 +6,9 @@ returns-in-Satisfies-clause-answered c = rw c.in-Satisfies.is c.satisfies_each.e
 
 pub returns-in-SatisfiesWord-clause-answered : goal.returns-in-SatisfiesWord-clause-answered
 returns-in-SatisfiesWord-clause-answered c = rw c.in-SatisfiesWord.is c.satisfies_word_each.ensures.answers
+
+pub returns-in-Satisfies-clause-unmentioned : goal.returns-in-Satisfies-clause-unmentioned
+returns-in-Satisfies-clause-unmentioned c = rw c.in-Satisfies.is c.satisfies_each.ensures.unmentioned
+
+pub returns-in-SatisfiesWord-clause-unmentioned : goal.returns-in-SatisfiesWord-clause-unmentioned
+returns-in-SatisfiesWord-clause-unmentioned c = rw c.in-SatisfiesWord.is c.satisfies_word_each.ensures.unmentioned

@@ -6,7 +6,7 @@ pub returns-in-Ok : goal.returns-in-Ok
 returns-in-Ok g c = record {
   made = Ok (c.in-Ok.made.exit, c.in-Ok.made.text.items);
   answer = c.in-Ok.ensures.answered;
-  told = c.write_formula_answers.ensures;
+  told = (c.in-Ok.made.unmentioned.items, c.in-Ok.ensures.unmentioned, c.write_formula_answers.ensures);
 }
 
 pub returns-in-Err : goal.returns-in-Err
