@@ -1,7 +1,7 @@
-"""Questions asked of streams: what `empty`, `trim`, `complement` and `contained` with `--stream` answer to 300 random
-streams is what they answer to each of its automata alone, in turn, and the refusal is that of the text, else that of
-the first automaton that is refused. `empty` and `contained` write `aborted` for what is aborted, and `trim` and
-`complement` leave it out, as `canon` does.
+"""Questions asked of streams: what `empty`, `trim`, `complement`, `contained` and `satisfies` with `--stream` answer to
+300 random streams is what they answer to each of its automata alone, in turn, and the refusal is that of the text, else
+that of the first automaton that is refused. `empty` and `contained` write `aborted` for what is aborted, `satisfies`
+writes it for each formula, and `trim` and `complement` leave it out, as `canon` does.
 
 What the program says of one automaton is judged by other families.
 """
@@ -14,7 +14,8 @@ from program import Cases, Fault, Left, fault_of, output_of, run_of
 
 ABORTED = b"HOA: v1 States: 3 --ABORT--\n"
 QUESTIONS = (["empty", "--search"], ["empty", "--search", "--word"], ["empty", "--search", "--status"], ["empty"],
-             ["empty", "--budget", "3"], ["trim"], ["complement"])
+             ["empty", "--budget", "3"], ["trim"], ["complement"], ["satisfies", "-f", "G F p0"],
+             ["satisfies", "-f", "p0 U p1", "--explain", "-f", "G(p0 -> X !p0)", "-f", "F p2 | 1"])
 # What is contained in it: all words, those with a again and again, none.
 OTHERS = (
     b'HOA: v1 States: 1 Start: 0 AP: 0 acc-name: all Acceptance: 0 t --BODY-- State: 0 [t] 0 --END--',
@@ -28,9 +29,9 @@ def canon(text: bytes) -> bytes:
     return output_of(["canon", "--format", "hoa"], text)
 
 
-def is_told(words: list[str]) -> bool:
-    """Whether the line `aborted` is written for an aborted item."""
-    return words[0] in ("empty", "contained")
+def told_times(words: list[str]) -> int:
+    """How often the line `aborted` is written for an aborted item."""
+    return words.count("-f") if words[0] == "satisfies" else int(words[0] in ("empty", "contained"))
 
 
 def answered(words: list[str], items: list[bytes]) -> Left:
@@ -38,7 +39,7 @@ def answered(words: list[str], items: list[bytes]) -> Left:
     output, status = b"", 0
     for item in items:
         if item == ABORTED:
-            output += b"aborted\n" if is_told(words) else canon(ABORTED)
+            output += b"aborted\n" * told_times(words) or canon(ABORTED)
             continue
         ran = run_of(words, item)
         if ran.returncode not in (0, 6):

@@ -102,6 +102,7 @@ COMMANDS = {
     "contained --stream": ("ContainedStream",),
     "equal": ("Equal",),
     "satisfies": ("Satisfies",),
+    "satisfies --stream": ("SatisfiesStream",),
     "satisfies --word": ("SatisfiesWord",),
     "meet": ("Meet false",),
     "meet --trim": ("Meet true",),

@@ -116,6 +116,7 @@ RUNS: list[Run] = [
     *((["satisfies", *more, "-f", formula], b"", text) for more in (NONE, ["--explain"])
       for formula, text in (("F a", BUCHI), ("G(a -> F !a)", OFTEN), ('b R "c"', WRITTEN))),
     *((["satisfies", "-v", "-f", formula], text, None) for formula, text in (("a &", BUCHI), ("a", b"HOA: v1"))),
+    *((["satisfies", *more, "-f", "F a", "-f", "G a", "--stream"], BUCHI + ABORTED, None) for more in (NONE, ["--explain"])),
     (["satisfies", "-v", "-f", '"b c" | F "a name of 18 bytes"', "-f", "F c"], BUCHI, None),
     *((["satisfies", *more, "-f", "F a", "-f", other], OFTEN, None) for more in (NONE, ["-v", "--explain"])
       for other in ("G a", "a &")),

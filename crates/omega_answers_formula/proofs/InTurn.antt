@@ -10,8 +10,9 @@ use Rattle.omega_text.specs.declared.refusal.Refusal.TheVariants.{Automaton, Cir
 use Rattle.omega_io.specs.declared.exit.Exit.{Exit}
 use Rattle.omega_io.specs.declared.exit.Exit.TheVariants.{Done, No}
 use Rattle.omega_ltl_formula.specs.Table.{NumberedFormula}
+use Rattle.omega_answers.specs.TwoTexts.{OfBoth}
 use Rattle.omega_answers_formula.specs.Formula.{IsFormulaOfText}
-use Rattle.omega_answers_formula.specs.InTurn.{AreAnswered, AreRefused, IsAbout, IsAskingRefused, IsFirstRefused, IsFirstUnread, IsNumbered, IsReadingRefused, IsRefusedBy, exit_after, later_exit}
+use Rattle.omega_answers_formula.specs.InTurn.{AreAnswered, AreRefused, IsAbout, IsAskingRefused, IsFirstRefused, IsFirstUnread, IsInputUnread, IsNumbered, IsReadingRefused, IsRefusedBy, exit_after, later_exit}
 use Rattle.omega_answers_formula.specs.Refused.{refused_about}
 use Rattle.omega_answers_formula.specs.declared.refused_formulas.About.{About}
 use Rattle.omega_answers_formula.specs.declared.refused_formulas.About.TheVariants.{Formula, Input, Question}
@@ -135,18 +136,27 @@ module _ (text question : ℕ → Refusal → Type 0) (input : Refusal → Type 
       go Memory is = refl
       go Io is = named about Io (then Io is)
 
+-- one of the texts is refused, whatever else could be
+pub refused_by_reading : (texts : List (List ℕ)) (question : ℕ → Refusal → Type 0) (input : Refusal → Type 0) (refused : RefusedFormulas)
+    → IsReadingRefused texts refused → IsRefusedBy (IsFirstUnread texts) question input refused
+refused_by_reading texts question input refused is = go refused.about refused.refusal is
+  where
+    go : (about : Option About) (refusal : Refusal) → IsAbout (IsFirstUnread texts) (λ number refusal. ⊥) (λ refusal. ⊥) about refusal
+        → IsRefusedBy (IsFirstUnread texts) question input (record { refusal = refusal; about = about })
+    go None refusal is = is
+    go (Some (Formula number)) refusal is = is
+    go (Some Input) refusal is = absurd is
+    go (Some (Question number)) refusal is = absurd is
+
 module _ {B : Type 0} (IsOfInput : B → Type 0) (RefusesInput : Refusal → Type 0) (Answers : B → NumberedFormula → Exit → List ℕ → Type 0)
     (Refuses : B → NumberedFormula → Refusal → Type 0) (texts : List (List ℕ)) where
   -- one of the texts is refused
   pub refused_reading : (refused : RefusedFormulas) → IsReadingRefused texts refused → AreRefused IsOfInput RefusesInput Answers Refuses texts refused
-  refused_reading refused is = go refused.about refused.refusal is
-    where
-      go : (about : Option About) (refusal : Refusal) → IsAbout (IsFirstUnread texts) (λ number refusal. ⊥) (λ refusal. ⊥) about refusal
-          → AreRefused IsOfInput RefusesInput Answers Refuses texts (record { refusal = refusal; about = about })
-      go None refusal is = is
-      go (Some (Formula number)) refusal is = is
-      go (Some Input) refusal is = absurd is
-      go (Some (Question number)) refusal is = absurd is
+  refused_reading refused is =
+      refused_by_reading texts
+      (λ number refusal. OfBoth (AllZip IsFormulaOfText texts) IsOfInput
+      (λ formulas input. IsFirstRefused (Answers input) (Refuses input) formulas number refusal))
+      (IsInputUnread RefusesInput texts) refused is
 
   -- or a formula is, of those that the texts say
   pub refused_asking : (formulas : List NumberedFormula) (input : B) → AllZip IsFormulaOfText texts formulas → IsOfInput input

@@ -1,4 +1,5 @@
 -- Lemmas of the answers about formulas.
 pub mod Alone
 pub mod InTurn
+pub mod Items
 pub mod Strings

@@ -7,6 +7,7 @@ pub mod Refused
 pub mod InTurn
 pub mod Satisfies
 pub mod Unmentioned
+pub mod SatisfiesStream
 pub mod SatisfiesWord
 pub mod Laws
 pub use Rattle.omega_text.specs.Cases

@@ -97,7 +97,7 @@ fn append_answer<Q: FormulaQuestion>(
 
 /// Returns how the program ends after answers after which it would end as `before`, and one after which it ends as
 /// `own`.
-fn later_exit(before: Exit, own: Exit) -> Exit
+pub(crate) fn later_exit(before: Exit, own: Exit) -> Exit
     ensures { result ≡ later_exit before own }
 {
     match own {

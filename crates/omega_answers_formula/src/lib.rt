@@ -1,4 +1,5 @@
-//! What `ltl` makes of the text of a formula, and what `satisfies` answers to it and to that of an automaton.
+//! What `ltl` makes of the text of a formula, and what `satisfies` answers to it and to that of an automaton, of a
+//! stream of automata, or of a word.
 //!
 //! docs/formats.md says when each refusal comes.
 #![tactic(auto)]
@@ -11,6 +12,7 @@ pub mod laws;
 mod ltl;
 mod refused_formulas;
 mod satisfies;
+mod satisfies_stream;
 mod satisfies_word;
 mod title;
 
@@ -21,4 +23,5 @@ pub use omega_answers::Exit;
 pub use omega_text::ByteString;
 pub use refused_formulas::{About, RefusedFormulas};
 pub use satisfies::{satisfies_each, satisfies_texts};
+pub use satisfies_stream::satisfies_stream_each;
 pub use satisfies_word::satisfies_word_each;

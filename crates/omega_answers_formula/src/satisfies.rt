@@ -180,7 +180,7 @@ impl<'a> FormulaQuestion for OfAutomaton<'a> {
 }
 
 /// Returns the exit and the text for a formula and an automaton. Fails as `satisfies` of `omega_ltl_satisfaction` does.
-fn satisfaction_reply(
+pub(crate) fn satisfaction_reply(
     alloc: Global,
     formula: &Formula,
     automaton: &Automaton,

@@ -107,8 +107,8 @@ equal = with_options (codes "equal")
 -- 102 is the letter f
 abbrev pub satisfies : Shape
 satisfies = with_options (codes "satisfies") (required_repeated 102 (codes "formula")
-    ∷ optional_as (codes "word") (codes "word-text") ∷ flag (codes "explain") ∷ verbose
-    ∷ operand (codes "file") ∷ [])
+    ∷ optional_as (codes "word") (codes "word-text") ∷ flag (codes "explain")
+    ∷ flag (codes "stream") ∷ verbose ∷ operand (codes "file") ∷ [])
 
 abbrev pub meet : Shape
 meet = with_options (codes "meet")

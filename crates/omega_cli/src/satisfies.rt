@@ -2,7 +2,7 @@ ghost use Rattle.std.specs.Prelude.{◌≡◌, IfOk};
 ghost use Rattle.omega_cli.specs.Program.{satisfies};
 ghost use Rattle.clap.specs.Words.{shape_of};
 
-use crate::options::{FILE, OptionHelp, VERBOSE, Value};
+use crate::options::{FILE, OptionHelp, STREAM, VERBOSE, Value};
 use crate::subcommand::subcommand;
 use clap::Command;
 use std::alloc::{AllocError, Global};
@@ -43,6 +43,18 @@ refused, or the task for one of the formulas, nothing is written but the lines o
   yes
   no
 
+--stream reads automata from FILE, one after the other, and writes the answer for each in turn; of several
+formulas those for the first automaton, then those for the second, and so on. For an automaton that is
+stopped by --ABORT-- it writes the line `aborted` in place of each answer. If there is no automaton, nothing
+is written. The exit status is 6 if one of the answers is `no`. If one of the automata is refused, nothing
+is written but the lines of the refusal. --verbose names no propositions then.
+
+  $ echo 'HOA: v1 --ABORT-- HOA: v1 Start: 0 AP: 1 \"grant\" Acceptance: 0 t
+    --BODY-- State: 0 [0] 0 --END--' | cat - system.hoa | omega satisfies -f 'G F grant' --stream
+  aborted
+  yes
+  no
+
 --word asks instead whether each word that WORD admits satisfies FORMULA, and no automaton is read. WORD is
 written as for `omega accepts`. With --explain one line follows `no`, a word: each word that it admits is
 admitted by WORD, and does not satisfy FORMULA.
@@ -58,16 +70,16 @@ that both accept?
 Faults of FORMULA come first, those of `omega ltl` with the place in FORMULA, then those of the text in
 FILE, which `omega check --help` lists, or those of WORD, as from `omega accepts`. Of several formulas all
 are read first, in their order. A text with --ABORT--, with no automaton or with several is not one
-automaton, and is refused as 3 Syntax. Then, if a start or an edge lists several states joined by &, the
-refusal is 41 UniversalBranch, or else it is 55 TooLarge if the automaton of the negated formula, or its
-product with that in FILE, is over a limit. 42 TooManyPropositions comes as from `omega meet`. With
---verbose another line says which of the texts is refused, `omega: in the formula`, `omega: in the
-automaton` or `omega: in the word`. Of several formulas it is `omega: in formula N`, or of the refusals
-that come of no text alone `omega: at formula N`; the first has the number 1. A file that can't be read is
-refused as 61 Io, and with --verbose another line has its name.
+automaton, and is refused as 3 Syntax, but not with --stream. Then, if a start or an edge lists several
+states joined by &, the refusal is 41 UniversalBranch, or else it is 55 TooLarge if the automaton of the
+negated formula, or its product with that in FILE, is over a limit. 42 TooManyPropositions comes as from
+`omega meet`. With --verbose another line says which of the texts is refused, `omega: in the formula`,
+`omega: in the automaton` or `omega: in the word`. Of several formulas it is `omega: in formula N`, or of
+the refusals that come of no text alone `omega: at formula N`; the first has the number 1. A file that
+can't be read is refused as 61 Io, and with --verbose another line has its name.
 
 Exit status: 0 yes, 1 a text or the task is refused, 2 the command line is wrong, 4 out of memory, 5 a
-read or a write failed, 6 no, or of several formulas, one `no`.";
+read or a write failed, 6 no, or of several formulas or automata, one `no`.";
 
 const OPTIONS: &[OptionHelp] = &[
     OptionHelp {
@@ -85,6 +97,7 @@ const OPTIONS: &[OptionHelp] = &[
         value: Value::None,
         help: "Write after `no` a lasso of the automaton, and a word that does not satisfy FORMULA",
     },
+    STREAM,
     VERBOSE,
     FILE,
 ];

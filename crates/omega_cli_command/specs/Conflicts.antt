@@ -58,7 +58,7 @@ IsUsed name.File options = text_of name.File options ≢ None
 -- `empty` makes no lifts. The progress of a stream is not reported. `verify` judges one thing, and only a game has
 -- parts, winners and names. Wrong winners are shown by no walk. One of a solution and a walk is drawn. The game of
 -- `realize` is written without being solved. `ltl` has one formula, that of the option or that of a file, and
--- `satisfies` is asked of a word or of the automaton of a file
+-- `satisfies` is asked of a word, or of the automaton or the stream of a file
 abbrev pub IsApartFrom : OptionName → Subcommand → OptionName → Type 0
 IsApartFrom name.Search subcommand option =
     ((subcommand ≡ sub.Solve) × (option ≡ name.Player))
@@ -74,7 +74,8 @@ IsApartFrom name.Winners subcommand option = (subcommand ≡ sub.Verify) × (opt
 IsApartFrom name.Solution subcommand option = (subcommand ≡ sub.Draw) × (option ≡ name.Walk)
 IsApartFrom name.Controller subcommand option = (subcommand ≡ sub.Realize) × (option ≡ name.AsGame)
 IsApartFrom name.Formula subcommand option = (subcommand ≡ sub.Ltl) × (option ≡ name.File)
-IsApartFrom name.WordText subcommand option = (subcommand ≡ sub.Satisfies) × (option ≡ name.File)
+IsApartFrom name.WordText subcommand option =
+    (subcommand ≡ sub.Satisfies) × ((option ≡ name.File) ⊎ (option ≡ name.Stream))
 IsApartFrom name.Lift subcommand option = (subcommand ≡ sub.Realize) × (option ≡ name.AsGame)
 IsApartFrom one subcommand option = ⊥
 

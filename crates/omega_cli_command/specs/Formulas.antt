@@ -1,5 +1,5 @@
 -- What a subcommand asks for that reads formulas, and the text of the input.
-use Rattle.std.specs.Prelude.{◌≡◌, ◌≢◌, List, None, ℕ}
+use Rattle.std.specs.Prelude.{◌≡◌, ◌≢◌, false, true, List, None, ℕ}
 use Rattle.omega_cli_command.specs.Options.{GivesFormulas, text_of}
 use Rattle.omega_cli_command.specs.Values.{GivesFlag}
 use Rattle.omega_cli_command.specs.declared.formulas.Formulas.{Formulas}
@@ -13,8 +13,13 @@ use Rattle.omega_cli_command.specs.declared.subcommand.Subcommand.TheVariants as
 abbrev pub AsksFormulas : Subcommand → Options → Formulas → List (List ℕ) → Type 0
 AsksFormulas subcommand options (asked.Satisfies explain) formulas = (subcommand ≡ sub.Satisfies)
     × GivesFormulas options formulas × GivesFlag (text_of name.Explain options) explain
-    × (text_of name.WordText options ≡ None)
+    × GivesFlag (text_of name.Stream options) false × (text_of name.WordText options ≡ None)
+AsksFormulas subcommand options (asked.SatisfiesStream explain) formulas =
+    (subcommand ≡ sub.Satisfies) × GivesFormulas options formulas
+    × GivesFlag (text_of name.Explain options) explain
+    × GivesFlag (text_of name.Stream options) true × (text_of name.WordText options ≡ None)
 AsksFormulas subcommand options (asked.SatisfiesWord explain) formulas =
     (subcommand ≡ sub.Satisfies) × GivesFormulas options formulas
-    × GivesFlag (text_of name.Explain options) explain × (text_of name.WordText options ≢ None)
+    × GivesFlag (text_of name.Explain options) explain
+    × GivesFlag (text_of name.Stream options) false × (text_of name.WordText options ≢ None)
     × (text_of name.File options ≡ None)

@@ -71,7 +71,7 @@ HasOption subcommand name.Depth = subcommand ≡ sub.Draw
 HasOption subcommand name.Progress =
     (subcommand ≡ sub.Solve) ⊎ (subcommand ≡ sub.Empty) ⊎ (subcommand ≡ sub.Realize)
 HasOption subcommand name.Stream = (subcommand ≡ sub.Empty) ⊎ (subcommand ≡ sub.Contained)
-    ⊎ (subcommand ≡ sub.Complement) ⊎ (subcommand ≡ sub.Trim)
+    ⊎ (subcommand ≡ sub.Satisfies) ⊎ (subcommand ≡ sub.Complement) ⊎ (subcommand ≡ sub.Trim)
 HasOption subcommand name.Winners = subcommand ≡ sub.Verify
 HasOption subcommand name.Min = subcommand ≡ sub.Canon
 HasOption subcommand name.Json = subcommand ≡ sub.Show

@@ -6,6 +6,11 @@ pub enum Formulas {
         /// Whether a `no` is explained.
         explain: bool,
     },
+    /// Says the same of each automaton of the stream that the input is, in turn.
+    SatisfiesStream {
+        /// Whether a `no` is explained.
+        explain: bool,
+    },
     /// Says whether each word that the input admits, which is the text of a word, satisfies the formula.
     SatisfiesWord {
         /// Whether a `no` is explained.

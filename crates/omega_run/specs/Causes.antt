@@ -69,6 +69,7 @@ kind_of_two asked which = kind.Automata
 -- what a command that asks formulas reads the text of the input as
 abbrev pub kind_asked : Formulas → TextKind
 kind_asked (asked.Satisfies explain) = kind.Automata
+kind_asked (asked.SatisfiesStream explain) = kind.Automata
 kind_asked (asked.SatisfiesWord explain) = kind.Other
 
 -- the line that names a place of the text, or no line if there is no place

@@ -4,7 +4,8 @@ use Rattle.std.specs.Prelude.{Ok, Err, ℕ, codes, decimal, length, nat_lt, slic
 use Rattle.std.specs.List.{flat_map}
 use Rattle.omega_text.specs.declared.refusal.Refusal.{Refusal}
 use Rattle.omega_cli_command.specs.declared.formulas.Formulas.{Formulas}
-use Rattle.omega_cli_command.specs.declared.formulas.Formulas.TheVariants.{Satisfies, SatisfiesWord}
+use Rattle.omega_cli_command.specs.declared.formulas.Formulas.TheVariants.{Satisfies, SatisfiesStream}
+use Rattle.omega_cli_command.specs.declared.formulas.Formulas.TheVariants.{SatisfiesWord}
 use Rattle.omega_io.specs.declared.exit.Exit.{Exit}
 use Rattle.omega_io.specs.declared.refused.Refused.{Refused}
 use Rattle.omega_io.specs.Exit.{status_of}
@@ -26,6 +27,7 @@ use Rattle.omega_run.specs.declared.text_kind.TextKind.TheVariants as kind
 -- what the text of the input is called
 abbrev pub input_name : Formulas → List ℕ
 input_name (Satisfies explain) = codes "automaton"
+input_name (SatisfiesStream explain) = codes "automaton"
 input_name (SatisfiesWord explain) = codes "word"
 
 -- the line that `--verbose` adds to that of a refusal: what it is about; of several formulas, which. The question of a
@@ -48,12 +50,13 @@ name_line name = codes "omega: the automaton has no proposition \"" ++ name ++ c
 abbrev pub name_lines : List (List ℕ) → List ℕ
 name_lines names = flat_map name_line names
 
--- the names that are told: with `--verbose` those of each formula, in turn, that the automaton does not have. Words
--- leave open what they do not say, and of them none is told
+-- the names that are told: with `--verbose` those of each formula, in turn, that the automaton does not have. Of a
+-- stream none is told, nor of words, which leave open what they do not say
 abbrev pub AreUnmentionedIn : Formulas → (verbose : Bool) → (formulas : List (List ℕ))
     → (input : List ℕ) → List (List ℕ) → Type 0
 AreUnmentionedIn (Satisfies explain) verbose formulas input names =
     AreUnmentioned verbose formulas input names
+AreUnmentionedIn (SatisfiesStream explain) verbose formulas input names = names ≡ []
 AreUnmentionedIn (SatisfiesWord explain) verbose formulas input names = names ≡ []
 
 -- the lines for a refusal: one line, and with `--verbose` what it is about

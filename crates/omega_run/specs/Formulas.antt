@@ -2,11 +2,14 @@
 -- about.
 use Rattle.std.specs.Prelude.{◌≡◌, List, Result, Ok, Err, ℕ}
 use Rattle.omega_cli_command.specs.declared.formulas.Formulas.{Formulas}
-use Rattle.omega_cli_command.specs.declared.formulas.Formulas.TheVariants.{Satisfies, SatisfiesWord}
+use Rattle.omega_cli_command.specs.declared.formulas.Formulas.TheVariants.{Satisfies, SatisfiesStream}
+use Rattle.omega_cli_command.specs.declared.formulas.Formulas.TheVariants.{SatisfiesWord}
 use Rattle.omega_io.specs.declared.exit.Exit.{Exit}
 use Rattle.omega_io.specs.declared.refused.Refused.{Refused}
 use Rattle.omega_answers_formula.specs.Refused.{unnumbered}
 use Rattle.omega_answers_formula.specs.Satisfies.{AreSatisfiesAnswers, AreSatisfiesRefused}
+use Rattle.omega_answers_formula.specs.SatisfiesStream.{AreSatisfiesStreamAnswers}
+use Rattle.omega_answers_formula.specs.SatisfiesStream.{AreSatisfiesStreamRefused}
 use Rattle.omega_answers_formula.specs.SatisfiesWord.{AreSatisfiesWordAnswers, AreSatisfiesWordRefused}
 use Rattle.omega_answers_formula.specs.declared.refused_formulas.RefusedFormulas.{RefusedFormulas}
 
@@ -14,6 +17,8 @@ use Rattle.omega_answers_formula.specs.declared.refused_formulas.RefusedFormulas
 abbrev pub AnswersFormulas : Formulas → (formulas : List (List ℕ)) → (input : List ℕ)
     → Exit → List ℕ → Type 0
 AnswersFormulas (Satisfies explain) formulas input = AreSatisfiesAnswers formulas input explain
+AnswersFormulas (SatisfiesStream explain) formulas input =
+    AreSatisfiesStreamAnswers formulas input explain
 AnswersFormulas (SatisfiesWord explain) formulas input =
     AreSatisfiesWordAnswers formulas input explain
 
@@ -21,6 +26,8 @@ AnswersFormulas (SatisfiesWord explain) formulas input =
 abbrev pub RefusesFormulas : Formulas → (formulas : List (List ℕ)) → (input : List ℕ)
     → RefusedFormulas → Type 0
 RefusesFormulas (Satisfies explain) formulas input = AreSatisfiesRefused formulas input explain
+RefusesFormulas (SatisfiesStream explain) formulas input =
+    AreSatisfiesStreamRefused formulas input explain
 RefusesFormulas (SatisfiesWord explain) formulas input =
     AreSatisfiesWordRefused formulas input explain
 

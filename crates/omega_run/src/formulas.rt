@@ -16,7 +16,8 @@ use crate::reporting::{line_in, report, report_lines};
 use crate::text_kind::{TextKind, kind_asked};
 use crate::writing::write_made;
 use omega_answers_formula::{
-    About, FormulaAnswers, RefusedFormulas, satisfies_each, satisfies_word_each,
+    About, FormulaAnswers, RefusedFormulas, satisfies_each, satisfies_stream_each,
+    satisfies_word_each,
 };
 use omega_cli_command::{ByteString, Formulas};
 use omega_io::{Exit, Output, Refusal, Refused, exit_code, failure_of};
@@ -40,6 +41,9 @@ fn answer_formulas(
 {
     match asked {
         Formulas::Satisfies { explain } => satisfies_each(alloc, formulas, input, explain, names),
+        Formulas::SatisfiesStream { explain } => satisfies_stream_each(
+            alloc, formulas, input, explain,
+        ),
         Formulas::SatisfiesWord { explain } => satisfies_word_each(alloc, formulas, input, explain),
     }
 }
@@ -220,7 +224,7 @@ fn input_name(asked: Formulas) -> &'static str
     ensures { result.now ≡ input_name asked }
 {
     match asked {
-        Formulas::Satisfies { .. } => "automaton",
+        Formulas::Satisfies { .. } | Formulas::SatisfiesStream { .. } => "automaton",
         Formulas::SatisfiesWord { .. } => "word",
     }
 }

@@ -64,7 +64,7 @@ pub(crate) fn kind_asked(asked: Formulas) -> TextKind
     ensures { result ≡ kind_asked asked }
 {
     match asked {
-        Formulas::Satisfies { .. } => TextKind::Automata,
+        Formulas::Satisfies { .. } | Formulas::SatisfiesStream { .. } => TextKind::Automata,
         Formulas::SatisfiesWord { .. } => TextKind::Other,
     }
 }

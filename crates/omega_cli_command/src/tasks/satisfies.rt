@@ -24,15 +24,21 @@ pub(crate) fn satisfies_task<'a>(
     ensures mistaken { IfErr result (IsMistake sub.Satisfies options.now) }
 {
     let explain = is_set(OptionName::Explain, options.explain)?;
+    let stream = is_set(OptionName::Stream, options.stream)?;
     if options.first_formula().is_none() {
         return Err(Mistake::Missing(OptionName::Formula));
     }
     if options.word_text.is_some() && options.file.is_some() {
         return Err(Mistake::Conflict(OptionName::WordText, OptionName::File));
     }
+    if options.word_text.is_some() && stream {
+        return Err(Mistake::Conflict(OptionName::WordText, OptionName::Stream));
+    }
     let formulas = formulas_in(alloc, options)?;
     if options.word_text.is_some() {
         Ok(Task::of(Command::Formulas(Formulas::SatisfiesWord { explain }, formulas)))
+    } else if stream {
+        Ok(Task::of(Command::Formulas(Formulas::SatisfiesStream { explain }, formulas)))
     } else {
         Ok(Task::of(Command::Formulas(Formulas::Satisfies { explain }, formulas)))
     }
