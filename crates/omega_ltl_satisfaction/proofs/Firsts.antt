@@ -36,7 +36,7 @@ module _ (P : Conjunct → Type 0) where
   first_all [] d some all = absurd (omega (arith, some))
   first_all (x ∷ xs) d some all = all.0
 
-  others_all : (xs : List Conjunct) → 0 < length xs → AllByRecursion P xs → AllByRecursion P (others xs)
+  pub others_all : (xs : List Conjunct) → 0 < length xs → AllByRecursion P xs → AllByRecursion P (others xs)
   others_all [] some all = absurd (omega (arith, some))
   others_all (x ∷ xs) some all = subst (AllByRecursion P) (sym (others_are x xs)) all.1
 

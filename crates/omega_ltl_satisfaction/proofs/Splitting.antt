@@ -161,9 +161,10 @@ module _ (table : FormulaTable) (is : IsTable table) (whole : FormulaTree) (foun
       (smaller_over table.names (tree_at table) c.negated (node_at table.nodes c.node)) in
       omega (arith, sum_by-append size rest parts, sum_by-append size rest (c ∷ []), less)
 
--- the negation of a formula as its one conjunct
-pub negation_alone : (formula : NumberedFormula) → IsFormula formula → IsTakenApart formula.table (asked_tree true (tree_of formula)) [] (conjunct_of formula.root true ∷ [])
-negation_alone formula is = record {
+-- a formula, or its negation, as its one conjunct
+pub whole_alone : (formula : NumberedFormula) (negated : Bool) → IsFormula formula
+    → IsTakenApart formula.table (asked_tree negated (tree_of formula)) [] (conjunct_of formula.root negated ∷ [])
+whole_alone formula negated is = record {
   some = omega arith;
   found_are = record { within = tt; each = tt };
   pending_are = record { within = (is.rooted, tt); each = (itself, tt) };
@@ -171,8 +172,9 @@ negation_alone formula is = record {
 }
 
 -- and found
-pub negation_found : (formula : NumberedFormula) → IsFormula formula → AreConjuncts formula (conjunct_of formula.root true ∷ [])
-negation_found formula is = record {
+pub whole_found : (formula : NumberedFormula) (negated : Bool) → IsFormula formula
+    → AreConjuncts formula (asked_tree negated (tree_of formula)) (conjunct_of formula.root negated ∷ [])
+whole_found formula negated is = record {
   some = omega arith;
   found_are = record { within = (is.rooted, tt); each = (itself, tt) };
   pending_are = record { within = tt; each = tt };

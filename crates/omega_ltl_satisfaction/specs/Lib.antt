@@ -1,5 +1,6 @@
 -- Whether automata and words satisfy formulas: what contracts cite.
 pub mod Satisfaction
+pub mod SatisfyingWords
 pub mod WordSatisfaction
 pub mod Conjuncts
 pub mod Refusing

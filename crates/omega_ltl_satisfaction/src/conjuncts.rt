@@ -1,6 +1,8 @@
-//! The conjuncts of the negation of a formula.
+//! The conjuncts of a formula, or of its negation.
 
-ghost use Rattle.std.specs.Prelude.{◌≡◌, true, ◌++◌, ◌∷◌, [], IfOk, IsOkUnless, OnOk};
+ghost use Rattle.std.specs.Prelude.{◌≡◌, ◌++◌, ◌∷◌, [], IfOk, IsOkUnless, OnOk};
+ghost use Rattle.omega_ltl_formula.specs.Table.{tree_of};
+ghost use Rattle.omega_ltl_translation.specs.Translation.{asked_tree};
 ghost use Rattle.omega_ltl_satisfaction.specs.private.Conjuncts.{AreConjuncts, conjunct_of, parts_of};
 ghost use Rattle.omega_ltl_satisfaction.specs.private.Conjuncts.{whole_among};
 
@@ -12,46 +14,63 @@ use std::alloc::Global;
 /// The most conjuncts that are met one by one.
 const MOST_CONJUNCTS: usize = 64;
 
-/// Returns the conjuncts of the negation of `formula`, or this negation alone if it has over [MOST_CONJUNCTS]. Takes
-/// linear time in the atoms and operators.
-pub(crate) fn conjuncts_of_negation(
+/// Returns the conjuncts of `formula`, or, if `negated`, of its negation; or that alone if it has over
+/// [MOST_CONJUNCTS]. Takes linear time in the atoms and operators.
+pub(crate) fn conjuncts_of(
     alloc: Global,
     formula: &Formula,
+    negated: bool,
 ) -> Result<Vec<Conjunct>, Refusal>
-    ensures conjuncts { IfOk result (λ conjuncts. AreConjuncts formula.now conjuncts.items) }
+    ensures conjuncts { IfOk result (λ conjuncts.
+        AreConjuncts formula.now (asked_tree negated (tree_of formula.now)) conjuncts.items) }
+    ensures memory { IsOkUnless result Refusal.Memory }
+{
+    let conjuncts = all_conjuncts(alloc, formula, negated)?;
+    if conjuncts.len() <= MOST_CONJUNCTS {
+        Ok(conjuncts)
+    } else {
+        whole_conjunct(alloc, formula, negated)
+    }
+}
+
+/// Returns `formula`, or, if `negated`, its negation, as the one conjunct of itself.
+pub(crate) fn whole_conjunct(
+    alloc: Global,
+    formula: &Formula,
+    negated: bool,
+) -> Result<Vec<Conjunct>, Refusal>
+    ensures conjuncts { IfOk result (λ conjuncts.
+        AreConjuncts formula.now (asked_tree negated (tree_of formula.now)) conjuncts.items) }
     ensures memory { IsOkUnless result Refusal.Memory }
 {
     formula.keeps_limits();
-    let conjuncts = all_conjuncts(alloc, formula)?;
-    if conjuncts.len() <= MOST_CONJUNCTS {
-        return Ok(conjuncts);
-    }
-    let whole = negation_of(alloc, formula)?;
+    let whole = whole_formula(alloc, formula, negated)?;
     Ok(whole)
 }
 
-/// Returns the negation of `formula` as the one conjunct of itself.
-fn negation_of(alloc: Global, formula: &Formula) -> Result<Vec<Conjunct>, Refusal>
+/// Returns the one conjunct that is `formula`, or, if `negated`, its negation.
+fn whole_formula(alloc: Global, formula: &Formula, negated: bool) -> Result<Vec<Conjunct>, Refusal>
     ensures conjunct { IfOk result
-        (λ conjuncts. conjuncts.items ≡ conjunct_of formula.now.root true ∷ []) }
+        (λ conjuncts. conjuncts.items ≡ conjunct_of formula.now.root negated ∷ []) }
     ensures memory { IsOkUnless result Refusal.Memory }
 {
     let mut whole = Vec::new(alloc);
     whole.push(Conjunct {
         node: formula.root(),
-        negated: true,
+        negated,
     })?;
     Ok(whole)
 }
 
-/// Returns all conjuncts of the negation of `formula`, from left to right.
-fn all_conjuncts(alloc: Global, formula: &Formula) -> Result<Vec<Conjunct>, Refusal>
-    ensures conjuncts { IfOk result (λ conjuncts. AreConjuncts formula.now conjuncts.items) }
+/// Returns all conjuncts of `formula`, or, if `negated`, of its negation, from left to right.
+fn all_conjuncts(alloc: Global, formula: &Formula, negated: bool) -> Result<Vec<Conjunct>, Refusal>
+    ensures conjuncts { IfOk result (λ conjuncts.
+        AreConjuncts formula.now (asked_tree negated (tree_of formula.now)) conjuncts.items) }
     ensures memory { IsOkUnless result Refusal.Memory }
 {
     formula.keeps_limits();
     let nodes = formula.nodes();
-    let mut pending = negation_of(alloc, formula)?;
+    let mut pending = whole_formula(alloc, formula, negated)?;
     let mut found = Vec::new(alloc);
     while let Some(conjunct) = pending.pop() {
         take_apart(conjunct, nodes[conjunct.node], &mut pending, &mut found)?;

@@ -1,10 +1,10 @@
 //! The intersection of an automaton with those of conjuncts, one after the other.
 
-ghost use Rattle.std.specs.Prelude.{◌≡◌, ◌<◌, false, true, IfErr, IfOk, length};
+ghost use Rattle.std.specs.Prelude.{◌≡◌, ◌<◌, false, IfErr, IfOk, length};
+ghost use Rattle.std.specs.List.{AllByRecursion};
 ghost use Rattle.omega_hoa_automaton.specs.Branching.{has_universal_branching};
-ghost use Rattle.omega_ltl_formula.specs.Table.{tree_of};
-ghost use Rattle.omega_ltl_translation.specs.Translation.{asked_tree};
-ghost use Rattle.omega_ltl_satisfaction.specs.Refusing.{IsNegationRefusal};
+ghost use Rattle.omega_ltl_formula.specs.Formula.{FormulaTree};
+ghost use Rattle.omega_ltl_satisfaction.specs.Refusing.{IsMeetingRefusal};
 ghost use Rattle.omega_ltl_satisfaction.specs.private.Conjuncts.{AreSome};
 ghost use Rattle.omega_ltl_satisfaction.specs.private.Meeting.{IsMeeting};
 
@@ -17,8 +17,8 @@ use omega_lang_product::product;
 use omega_ltl_formula::Formula;
 use std::alloc::Global;
 
-/// Returns whether `one` accepts a word that satisfies each of `conjuncts`, which are of the negation of `formula`. If
-/// it does, returns such words, and an accepting lasso of `one` along which it accepts them.
+/// Returns whether `one` accepts a word that satisfies each of `conjuncts`, which are of nodes of `formula`. If so,
+/// returns such words, and an accepting lasso of `one` along which it accepts them.
 ///
 /// Fails with [TaskFault::TooLarge] or [TaskFault::TooManyPropositions] as `translate` does for a conjunct, or as
 /// `product` or `intersection` do for an automaton so far and that of the next conjunct. Recurses as deep as there are
@@ -30,10 +30,12 @@ pub(crate) fn common_words(
     conjuncts: &[Conjunct],
 ) -> Result<Intersection, Refusal>
     requires some { 0 < length conjuncts.now }
-    requires conjuncts { AreSome formula.now.table (asked_tree true (tree_of formula.now)) conjuncts.now }
+    requires within { AllByRecursion (λ conjunct. conjunct.node < length formula.now.table.nodes)
+        conjuncts.now }
     requires plain { has_universal_branching one.now ≡ false }
     ensures right { IfOk result (IsMeeting one.now formula.now conjuncts.now) }
-    ensures refused { IfErr result (IsNegationRefusal one.now formula.now) }
+    ensures refused { IfErr result (λ refusal. (whole : FormulaTree)
+        → AreSome formula.now.table whole conjuncts.now → IsMeetingRefusal one.now whole refusal) }
 {
     one.keeps_limits();
     let part = conjunct_automaton(alloc, formula, conjuncts[0])?;

@@ -1,22 +1,20 @@
-//! Satisfaction by the intersection with the automata of the conjuncts of the negation.
+//! Satisfaction by the words that an automaton accepts and that satisfy the negation of a formula.
 
-ghost use Rattle.std.specs.Prelude.{◌≡◌, false, IfErr, IfOk, List, OnOk};
+ghost use Rattle.std.specs.Prelude.{◌≡◌, false, IfErr, IfOk, OnOk};
 ghost use Rattle.omega_hoa_automaton.specs.Automaton.{Description};
 ghost use Rattle.omega_hoa_automaton.specs.Branching.{has_universal_branching};
-ghost use Rattle.omega_ltl_formula.specs.Table.{NumberedFormula};
-ghost use Rattle.omega_ltl_satisfaction.specs.Refusing.{IsNegationRefusal, IsSatisfactionRefusal};
+ghost use Rattle.omega_ltl_formula.specs.Formula.{unary};
+ghost use Rattle.omega_ltl_formula.specs.Table.{NumberedFormula, tree_of};
+ghost use Rattle.omega_ltl_formula.specs.declared.operators.UnaryOperator.TheVariants.{Not};
+ghost use Rattle.omega_ltl_satisfaction.specs.Refusing.{IsSatisfactionRefusal};
 ghost use Rattle.omega_ltl_satisfaction.specs.Satisfaction.{IsSatisfaction};
-ghost use Rattle.omega_ltl_satisfaction.specs.declared.conjunct.Conjunct.{Conjunct};
-ghost use Rattle.omega_ltl_satisfaction.specs.private.Conjuncts.{AreConjuncts};
-ghost use Rattle.omega_ltl_satisfaction.specs.private.Meeting.{IsMeeting};
+ghost use Rattle.omega_ltl_satisfaction.specs.SatisfyingWords.{AreWordsOf};
 
-use crate::conjuncts::conjuncts_of_negation;
-use crate::meeting::common_words;
 use crate::satisfaction::Satisfaction;
-use omega_hoa_automaton::{Automaton, Refusal, has_universal_branching};
+use crate::words::words_of;
+use omega_hoa_automaton::{Automaton, Refusal};
 use omega_lang_intersection::Intersection;
 use omega_ltl_formula::Formula;
-use omega_text::TaskFault;
 use std::alloc::Global;
 
 /// Returns whether each word that `automaton` accepts satisfies `formula`. If not, returns words that `automaton`
@@ -35,6 +33,9 @@ use std::alloc::Global;
 /// - Those of the product of the automaton so far with that of the conjunct: [TaskFault::TooManyPropositions] and
 ///   [TaskFault::TooLarge]. Of the last conjunct they are those of `intersection`, which has no labels to refuse.
 ///
+/// If one of the last two comes where there are several conjuncts, the negation itself is met as the only one, and what
+/// comes of it is the refusal.
+///
 /// Takes the time of these calls, and if there is a counterexample, that of `pair_graph` for each product.
 pub fn satisfies(
     alloc: Global,
@@ -45,34 +46,16 @@ pub fn satisfies(
     ensures plain { OnOk result (has_universal_branching automaton.now ≡ false) }
     ensures refused { IfErr result (IsSatisfactionRefusal automaton.now formula.now) }
 {
-    if has_universal_branching(automaton) {
-        Err(Refusal::Task(TaskFault::UniversalBranch))
-    } else {
-        satisfaction_of_plain(alloc, automaton, formula)
-    }
-}
-
-/// Returns what [satisfies] returns for an automaton without universal branching.
-fn satisfaction_of_plain(
-    alloc: Global,
-    automaton: &Automaton,
-    formula: &Formula,
-) -> Result<Satisfaction, Refusal>
-    requires { has_universal_branching automaton.now ≡ false }
-    ensures right { IfOk result (IsSatisfaction automaton.now formula.now) }
-    ensures refused { IfErr result (IsNegationRefusal automaton.now formula.now) }
-{
-    let conjuncts = conjuncts_of_negation(alloc, formula)?;
-    match common_words(alloc, automaton, formula, conjuncts.as_slice()) {
+    match words_of(alloc, automaton, formula, true) {
         Ok(answer) => Ok(satisfaction_of(answer)),
         Err(refusal) => Err(refusal),
     }
 }
 
-/// Returns what the common words of an automaton and the conjuncts of the negation of a formula say of the two.
+/// Returns what the words that an automaton accepts and that satisfy the negation of a formula say of the two.
 fn satisfaction_of(answer: Intersection) -> Satisfaction
-    ensures { (automaton : Description) (formula : NumberedFormula) (conjuncts : List Conjunct)
-        → AreConjuncts formula conjuncts → IsMeeting automaton formula conjuncts answer
+    ensures { (automaton : Description) (formula : NumberedFormula)
+        → AreWordsOf automaton formula (unary Not (tree_of formula)) answer
         → IsSatisfaction automaton formula result }
 {
     match answer {

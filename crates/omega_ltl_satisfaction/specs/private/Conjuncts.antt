@@ -1,10 +1,10 @@
--- The conjuncts of the negation of a formula, by the nodes of its table.
+-- The conjuncts of a formula or of its negation, by the nodes of its table.
 use Rattle.std.specs.Prelude.{◌<◌, ◌+◌, ℕ, Bool, false, true, not, List, [], ◌∷◌, length}
 use Rattle.std.specs.List.{AllByRecursion}
 use Rattle.omega_text.specs.NamedWords.{NamedWord}
 use Rattle.omega_ltl_formula.specs.Formula.{FormulaTree}
 use Rattle.omega_ltl_formula.specs.Meaning.{Satisfies}
-use Rattle.omega_ltl_formula.specs.Table.{FormulaTable, NumberedFormula, tree_at, tree_of}
+use Rattle.omega_ltl_formula.specs.Table.{FormulaTable, NumberedFormula, tree_at}
 use Rattle.omega_ltl_formula.specs.declared.node.FormulaNode.{FormulaNode}
 use Rattle.omega_ltl_formula.specs.declared.node.FormulaNode.TheVariants.{Binary, Unary}
 use Rattle.omega_ltl_formula.specs.declared.operators.BinaryOperator.TheVariants.{And, Implies, Or}
@@ -54,7 +54,6 @@ pub record IsTakenApart (table : FormulaTable) (whole : FormulaTree) (found pend
   pub whole_is : (word : NamedWord) → AreMet (tree_at table) found word → AreMet (tree_at table) pending word
       → Satisfies whole word
 
--- conjuncts are those of the negation of a formula
-abbrev pub AreConjuncts : NumberedFormula → List Conjunct → Type 0
-AreConjuncts formula conjuncts =
-    IsTakenApart formula.table (asked_tree true (tree_of formula)) conjuncts []
+-- conjuncts are all those of `whole`, a formula whose parts are nodes of another
+abbrev pub AreConjuncts : NumberedFormula → FormulaTree → List Conjunct → Type 0
+AreConjuncts formula whole conjuncts = IsTakenApart formula.table whole conjuncts []

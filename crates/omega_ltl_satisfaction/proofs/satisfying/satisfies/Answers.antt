@@ -1,11 +1,5 @@
--- universal branching is judged first
-use Rattle.std.proofs.Common.{sym, ◌∙◌}
-use Rattle.std.proofs.lemmas.Result.{IfErr-weaker}
-use Rattle.omega_ltl_satisfaction.specs.Refusing.{not_decided}
+-- what the words that do not satisfy the formula say
 use Rattle.omega_ltl_satisfaction.proofs.satisfying.satisfies.Goals as goal
 
-pub returns-else-has_universal_branching-clause-refused : goal.returns-else-has_universal_branching-clause-refused
-returns-else-has_universal_branching-clause-refused c =
-    IfErr-weaker c.satisfaction_of_plain.result _ _
-    (λ refusal refused. not_decided (sym c.has_universal_branching.ensures ∙ c.if-has_universal_branching.false) refused)
-    c.satisfaction_of_plain.ensures.refused
+pub returns-in-Ok-clause-right : goal.returns-in-Ok-clause-right
+returns-in-Ok-clause-right c = c.satisfaction_of.ensures c.args.automaton.now c.args.formula.now c.in-Ok.ensures.right
