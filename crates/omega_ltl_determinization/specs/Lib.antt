@@ -2,4 +2,5 @@
 pub mod Limits
 pub mod Letters
 pub mod Deterministic
+pub mod Reading
 pub mod Refusing

@@ -171,7 +171,7 @@ impl BracketStep {
         self.nodes.clear();
         self.places.clear();
         let (brackets, nodes) = match state.split_first() {
-            Some((count, rest)) => parted(rest, *count as usize),
+            Some((count, rest)) => front_and_rest(rest, *count as usize),
             None => (state, state),
         };
         self.parents.copy(brackets)?;
@@ -356,7 +356,7 @@ impl BracketStep {
 }
 
 /// Returns the first `count` numbers and the others, or all and none if there are fewer.
-fn parted(numbers: &[u32], count: usize) -> (&[u32], &[u32]) {
+fn front_and_rest(numbers: &[u32], count: usize) -> (&[u32], &[u32]) {
     if count > numbers.len() {
         return (numbers, &[]);
     }

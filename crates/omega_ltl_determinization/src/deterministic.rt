@@ -1,4 +1,6 @@
-use crate::letters::has_letter;
+ghost use Rattle.std.specs.Prelude.{◌≡◌, ◌+◌, ◌-◌, ◌^◌, length, min};
+ghost use Rattle.omega_ltl_determinization.specs.Reading.{colour_at, first_edge, letters_at, target_at, width_of};
+
 use omega_graph_search::{NONE, number_of};
 use omega_text::Seq;
 use std::alloc::AllocError;
@@ -30,14 +32,18 @@ pub struct DeterministicAutomaton {
 }
 
 impl DeterministicAutomaton {
-    /// Returns how many states there are.
-    pub fn state_count(&self) -> u32 {
+    /// Returns how many states there are, at most [`NONE`].
+    pub fn state_count(&self) -> u32
+        ensures { result ≡ min (length self.now.ends) (2 ^ 32 - 1) }
+    {
         number_of(self.ends.len())
     }
 
     /// Returns the index of the first edge of a state, or a number that is no less than that of the last past the last
     /// state.
-    pub fn first_edge(&self, state: u32) -> u32 {
+    fn first_edge(&self, state: u32) -> u32
+        ensures { result ≡ first_edge self.now state }
+    {
         if state == 0 {
             return 0;
         }
@@ -47,25 +53,19 @@ impl DeterministicAutomaton {
         }
     }
 
-    /// Returns the edges of a state, or none past the last state.
-    pub fn edges_of(&self, state: u32) -> &[DeterministicEdge] {
-        let edges = self.edges.as_slice();
-        let first = self.first_edge(state) as usize;
-        let end = self.first_edge(state.saturating_add(1)) as usize;
-        match edges.get(first..end) {
-            Some(edges) => edges,
-            None => &[],
-        }
-    }
-
     /// Returns the indices of the edges of a state, none past the last state.
-    pub fn places_of(&self, state: u32) -> Range<u32> {
+    pub fn places_of(&self, state: u32) -> Range<u32>
+        ensures first { result.start ≡ first_edge self.now state }
+        ensures end { result.end ≡ first_edge self.now (min (state + 1) (2 ^ 32 - 1)) }
+    {
         self.first_edge(state)..self.first_edge(state.saturating_add(1))
     }
 
     /// Returns the target of the edge at an index, or [`NONE`] past the last.
     #[inline(always)]
-    pub fn target(&self, edge: u32) -> u32 {
+    pub fn target(&self, edge: u32) -> u32
+        ensures { result ≡ target_at self.now.edges edge }
+    {
         match self.edges.as_slice().get(edge as usize) {
             Some(edge) => edge.target,
             None => NONE,
@@ -74,20 +74,19 @@ impl DeterministicAutomaton {
 
     /// Returns the colour of the edge at an index, or [`NONE`] past the last.
     #[inline(always)]
-    pub fn colour(&self, edge: u32) -> u32 {
+    pub fn colour(&self, edge: u32) -> u32
+        ensures { result ≡ colour_at self.now.edges edge }
+    {
         match self.edges.as_slice().get(edge as usize) {
             Some(edge) => edge.colour,
             None => NONE,
         }
     }
 
-    /// Returns the edge at an index, or none past the last.
-    pub fn edge(&self, edge: u32) -> Option<DeterministicEdge> {
-        self.edges.as_slice().get(edge as usize).copied()
-    }
-
     /// Returns how many words the table of the letters of an edge has.
-    pub fn width(&self) -> usize {
+    fn width(&self) -> usize
+        ensures { result ≡ width_of self.now }
+    {
         if self.edges.len() == 0 {
             return 0;
         }
@@ -95,7 +94,9 @@ impl DeterministicAutomaton {
     }
 
     /// Returns the table of the letters of the edge at an index, which is empty past the last edge.
-    pub fn letters_of(&self, edge: u32) -> &[u64] {
+    pub fn letters_of(&self, edge: u32) -> &[u64]
+        ensures { result.now ≡ letters_at self.now edge }
+    {
         let width = self.width();
         let first = (edge as usize).saturating_mul(width);
         match self
@@ -106,16 +107,6 @@ impl DeterministicAutomaton {
             Some(letters) => letters,
             None => &[],
         }
-    }
-
-    /// Returns the edge of a state at a letter, if there is one.
-    pub fn edge_at(&self, state: u32, letter: u32) -> Option<DeterministicEdge> {
-        for edge in self.places_of(state) {
-            if has_letter(self.letters_of(edge), letter) {
-                return self.edge(edge);
-            }
-        }
-        None
     }
 
     /// Whether a letter of `all` is in no edge of a state. `left` is overwritten.

@@ -6,6 +6,7 @@ use crate::bracket_step::{BracketStep, Nodes};
 use crate::components::{Components, components_of};
 use crate::deterministic::DeterministicAutomaton;
 use crate::deterministic_builder::DeterministicBuilder;
+use crate::essential_steps::essential_steps;
 use crate::letter_classes::classes_of;
 use crate::letter_sets::LetterSets;
 use crate::limits::{MOST_LEAF_NAMES, MOST_STATES};
@@ -41,12 +42,13 @@ pub fn deterministic_automaton(
     let classes = classes_of(alloc, automaton)?;
     let mut starts = Vec::from_slice(alloc, automaton.starts())?;
     let steps = Steps::of(alloc, automaton, &classes)?;
-    let steps = reduced_by_simulation(alloc, steps, &mut starts)?;
+    let essential = essential_steps(alloc, &steps, automaton.sets())?;
+    let steps = reduced_by_simulation(alloc, essential.steps, &mut starts)?;
     let components = components_by_steps(alloc, &steps)?;
     let nodes = Nodes {
         steps: &steps,
         components: &components,
-        sets: automaton.sets(),
+        sets: essential.sets,
     };
     let mut builder = DeterministicBuilder::new(alloc, automaton.names());
     explore(

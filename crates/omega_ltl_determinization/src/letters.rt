@@ -46,7 +46,7 @@ pub fn has_letter(set: &[u64], letter: u32) -> bool {
 }
 
 /// Returns the least letter of a set, or 0 if it is empty.
-pub fn first_letter(set: &[u64]) -> u32 {
+pub(crate) fn first_letter(set: &[u64]) -> u32 {
     let mut first = 0u32;
     for word in set {
         if *word != 0 {

@@ -11,6 +11,7 @@ mod components;
 mod deterministic;
 mod deterministic_builder;
 mod determinizing;
+mod essential_steps;
 mod fates;
 mod letter_classes;
 mod letter_sets;
@@ -28,12 +29,12 @@ pub use deterministic::{DeterministicAutomaton, DeterministicEdge};
 pub use deterministic_builder::DeterministicBuilder;
 pub use determinizing::deterministic_automaton;
 pub use letter_sets::LetterSets;
-pub use letters::{all_letters, first_letter, has_letter, word_count};
+pub use letters::{all_letters, has_letter, word_count};
 pub use limits::{
     MOST_LEAF_NAMES, MOST_NAMES, MOST_SETS, MOST_STATES, MOST_WORDS,
     determinization_limits_are_stated,
 };
-pub use nondeterministic::{NondeterministicAutomaton, NondeterministicEdge};
+pub use nondeterministic::NondeterministicAutomaton;
 pub use number_list::NumberList;
 pub use omega_text::Refusal;
 pub use tidying::smaller_automaton;

@@ -11,7 +11,7 @@ use std::alloc::{AllocError, Global};
 
 /// An edge of a nondeterministic automaton.
 #[derive(Clone, Copy, Debug, PartialEq, Eq)]
-pub struct NondeterministicEdge {
+pub(crate) struct NondeterministicEdge {
     /// The number of the state that it leads to.
     pub target: u32,
     /// The number of its set of letters among the labels of the automaton.
@@ -99,7 +99,7 @@ impl NondeterministicAutomaton {
     }
 
     /// Returns how many names the letters give truth values to.
-    pub fn names(&self) -> u32
+    pub(crate) fn names(&self) -> u32
         ensures names { result ≡ self.now.names }
         ensures few { result ≤ most_names }
     {
@@ -107,24 +107,24 @@ impl NondeterministicAutomaton {
     }
 
     /// Returns how many sets of edges there are.
-    pub fn sets(&self) -> u32
+    pub(crate) fn sets(&self) -> u32
         ensures { result ≤ most_sets }
     {
         self.sets
     }
 
     /// Returns the states from which runs begin.
-    pub fn starts(&self) -> &[u32] {
+    pub(crate) fn starts(&self) -> &[u32] {
         self.starts.as_slice()
     }
 
     /// Returns how many states there are.
-    pub fn state_count(&self) -> u32 {
+    pub(crate) fn state_count(&self) -> u32 {
         number_of(self.ends.len())
     }
 
     /// Returns the edges of a state, or none past the last state.
-    pub fn edges_of(&self, state: u32) -> &[NondeterministicEdge] {
+    pub(crate) fn edges_of(&self, state: u32) -> &[NondeterministicEdge] {
         let first = match state {
             0 => 0,
             _ => self.ends.get((state - 1) as usize).copied().unwrap_or(0),
@@ -137,12 +137,12 @@ impl NondeterministicAutomaton {
     }
 
     /// Returns how many different sets of letters the edges have.
-    pub fn label_count(&self) -> u32 {
+    pub(crate) fn label_count(&self) -> u32 {
         number_of(self.labels.len())
     }
 
     /// Returns the table of the letters of a label, which is empty past the last label.
-    pub fn label(&self, label: u32) -> &[u64] {
+    pub(crate) fn label(&self, label: u32) -> &[u64] {
         match self.labels.get_index(label as usize) {
             Some(letters) => letters.as_slice(),
             None => &[],

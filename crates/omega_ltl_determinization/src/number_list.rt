@@ -1,5 +1,8 @@
+ghost use Rattle.std.specs.Prelude.{◌≡◌, ◌++◌, ◌∷◌, ◌-◌, ◌^◌, [], length, min, replicate, slice_index_or, slice_set, OnErr, OnOk};
+
 use omega_graph_search::{NONE, number_of};
 use std::alloc::{AllocError, Global};
+use std::marker::Model;
 
 /// Numbers by index, to which more are appended. An index past the end reads as [`NONE`], and a write there does
 /// nothing.
@@ -8,9 +11,19 @@ pub struct NumberList {
     items: Vec<u32>,
 }
 
+impl Model for NumberList {
+    ghost use Rattle.std.specs.Prelude.{List, ℕ};
+
+    ghost Value = { List ℕ };
+
+    ghost view = { λ list. list.items.items };
+}
+
 impl NumberList {
     /// Returns the empty list, which takes no memory.
-    pub fn new(alloc: Global) -> NumberList {
+    pub fn new(alloc: Global) -> NumberList
+        ensures { result ≡ [] }
+    {
         NumberList {
             items: Vec::new(alloc),
         }
@@ -18,13 +31,17 @@ impl NumberList {
 
     /// Returns how many numbers there are, at most [`NONE`].
     #[inline(always)]
-    pub fn len(&self) -> u32 {
+    pub fn len(&self) -> u32
+        ensures { result ≡ min (length self.now) (2 ^ 32 - 1) }
+    {
         number_of(self.items.len())
     }
 
     /// Returns the number at `index`, or [`NONE`] past the end.
     #[inline(always)]
-    pub fn at(&self, index: u32) -> u32 {
+    pub fn at(&self, index: u32) -> u32
+        ensures { result ≡ slice_index_or self.now index (2 ^ 32 - 1) }
+    {
         match self.items.get(index as usize) {
             Some(number) => *number,
             None => NONE,
@@ -33,7 +50,9 @@ impl NumberList {
 
     /// Writes `number` at `index`, unless that is past the end.
     #[inline(always)]
-    pub fn put(&mut self, index: u32, number: u32) {
+    pub fn put(&mut self, index: u32, number: u32)
+        ensures { self.new ≡ slice_set self.old index number }
+    {
         if (index as usize) < self.items.len() {
             self.items[index as usize] = number;
         }
@@ -41,28 +60,34 @@ impl NumberList {
 
     /// Appends `number`.
     #[inline(always)]
-    pub fn push(&mut self, number: u32) -> Result<(), AllocError> {
+    pub fn push(&mut self, number: u32) -> Result<(), AllocError>
+        ensures ok { OnOk result (self.new ≡ self.old ++ number ∷ []) }
+        ensures err { OnErr result (self.new ≡ self.old) }
+    {
         self.items.push(number)?;
         Ok(())
     }
 
     /// Makes the list `count` times `number`.
-    pub fn fill(&mut self, count: u32, number: u32) -> Result<(), AllocError> {
+    pub fn fill(&mut self, count: u32, number: u32) -> Result<(), AllocError>
+        ensures { OnOk result (self.new ≡ replicate count number) }
+    {
         self.items.clear();
-        for _ in 0..count {
-            self.items.push(number)?;
-        }
-        Ok(())
+        self.items.resize(count as usize, number)
     }
 
     /// Makes the list the one of `numbers`.
-    pub fn copy(&mut self, numbers: &[u32]) -> Result<(), AllocError> {
+    pub fn copy(&mut self, numbers: &[u32]) -> Result<(), AllocError>
+        ensures { OnOk result (self.new ≡ numbers.now) }
+    {
         self.items.clear();
         self.items.extend_from_slice(numbers)
     }
 
     /// Drops all numbers.
-    pub fn clear(&mut self) {
+    pub fn clear(&mut self)
+        ensures { self.new ≡ [] }
+    {
         self.items.clear();
     }
 
@@ -72,7 +97,9 @@ impl NumberList {
     }
 
     /// Returns the numbers in order.
-    pub fn as_slice(&self) -> &[u32] {
+    pub fn as_slice(&self) -> &[u32]
+        ensures { result.now ≡ self.now }
+    {
         self.items.as_slice()
     }
 }

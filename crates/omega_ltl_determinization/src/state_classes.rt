@@ -30,6 +30,8 @@ struct Comparison<'a> {
     tables: IndexSet<Vec<u64>>,
     letters: NumberTable,
     parts: Vec<Part>,
+    // The letters of some parts together.
+    words: Vec<u64>,
 }
 
 /// Returns classes of the states of an automaton with these colours and fates, by refinement (Moore): states are apart
@@ -47,6 +49,7 @@ pub(crate) fn state_classes(
         tables: IndexSet::new(alloc),
         letters: NumberTable::filled(alloc, automaton.edges.len(), NONE)?,
         parts: Vec::new(alloc),
+        words: Vec::new(alloc),
     };
     comparison.number_letters(alloc)?;
     let mut classes = StateClasses {
@@ -69,9 +72,8 @@ impl<'a> Comparison<'a> {
     /// Numbers the tables of letters of all edges.
     fn number_letters(&mut self, alloc: Global) -> Result<(), AllocError> {
         for edge in 0..number_of(self.automaton.edges.len()) {
-            let table = Vec::from_slice(alloc, self.automaton.letters_of(edge))?;
-            let (number, _new) = self.tables.insert_full(table)?;
-            self.letters.put(edge, number_of(number));
+            let number = number_in(alloc, self.automaton.letters_of(edge), &mut self.tables)?;
+            self.letters.put(edge, number);
         }
         Ok(())
     }
@@ -143,40 +145,76 @@ impl<'a> Comparison<'a> {
 
     /// Joins the edges that lead to one class with one colour.
     fn join_parts(&mut self, alloc: Global) -> Result<(), AllocError> {
-        let mut joined: Vec<Part> = Vec::new(alloc);
-        for index in 0..self.parts.len() {
-            let part = match self.parts.get(index) {
+        let mut joined = Vec::with_capacity(alloc, self.parts.len())?;
+        let mut first = 0;
+        for _ in 0..self.parts.len() {
+            let part = match self.parts.get(first) {
                 Some(part) => *part,
                 None => break,
             };
-            match joined.pop() {
-                Some(last) if last.key == part.key => {
-                    let letters = self.union(alloc, last.letters, part.letters)?;
-                    joined.push(Part { letters, ..last })?;
-                }
-                Some(last) => {
-                    joined.push(last)?;
-                    joined.push(part)?;
-                }
-                None => joined.push(part)?,
-            }
+            let end = self.end_of_run(first, part.key);
+            let letters = if end <= first.saturating_add(1) {
+                part.letters
+            } else {
+                self.letters_of_run(alloc, first, end)?
+            };
+            joined.push(Part { letters, ..part })?;
+            first = end;
         }
         self.parts = joined;
         Ok(())
     }
 
-    /// Returns the number of the letters of two tables together.
-    fn union(&mut self, alloc: Global, one: u32, other: u32) -> Result<u32, AllocError> {
-        let mut table = Vec::new(alloc);
-        if let (Some(one), Some(other)) = (
-            self.tables.get_index(one as usize),
-            self.tables.get_index(other as usize),
-        ) {
-            for (word, more) in one.iter().zip(other.iter()) {
-                table.push(*word | *more)?;
+    /// Returns the index after the last part that has a key, among those that follow each other from an index on.
+    fn end_of_run(&self, first: usize, key: u64) -> usize {
+        for index in first..self.parts.len() {
+            if self.parts[index].key != key {
+                return index;
             }
         }
-        let (number, _new) = self.tables.insert_full(table)?;
-        Ok(number_of(number))
+        self.parts.len()
     }
+
+    /// Returns the number of the letters of the parts from one index to another together.
+    fn letters_of_run(
+        &mut self,
+        alloc: Global,
+        first: usize,
+        end: usize,
+    ) -> Result<u32, AllocError> {
+        self.words.clear();
+        if let Some(parts) = self.parts.get(first..end) {
+            for part in parts {
+                if let Some(table) = self.tables.get_index(part.letters as usize) {
+                    unite(&mut self.words, table.as_slice())?;
+                }
+            }
+        }
+        number_in(alloc, self.words.as_slice(), &mut self.tables)
+    }
+}
+
+/// Adds the letters of a table to a table that is as long, or empty.
+fn unite(words: &mut Vec<u64>, table: &[u64]) -> Result<(), AllocError> {
+    if words.is_empty() {
+        return words.extend_from_slice(table);
+    }
+    for (word, more) in words.iter_mut().zip(table) {
+        *word |= *more;
+    }
+    Ok(())
+}
+
+/// Returns the number of a table, which is added if it is not there.
+fn number_in(
+    alloc: Global,
+    table: &[u64],
+    tables: &mut IndexSet<Vec<u64>>,
+) -> Result<u32, AllocError> {
+    if let Some(number) = tables.get_index_of(table) {
+        return Ok(number_of(number));
+    }
+    let key = Vec::from_slice(alloc, table)?;
+    let (number, _new) = tables.insert_full(key)?;
+    Ok(number_of(number))
 }

@@ -101,6 +101,17 @@ impl Steps {
         }
     }
 
+    /// Returns the steps of a state at all classes of letters, or none past the last state.
+    pub(crate) fn of_state(&self, state: u32) -> &[Step] {
+        let place = (state as usize).wrapping_mul(self.classes as usize);
+        let first = self.end_before(place);
+        let end = self.end_before(place.wrapping_add(self.classes as usize));
+        match self.steps.get(first as usize..end as usize) {
+            Some(steps) => steps,
+            None => &[],
+        }
+    }
+
     /// Returns the index of the first step at a place of the list of ends.
     fn end_before(&self, place: usize) -> u32 {
         if place == 0 {

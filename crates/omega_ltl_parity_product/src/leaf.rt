@@ -40,8 +40,8 @@ pub fn leaf_of(
     ensures names { IfOk result (λ leaf. leaf.names ≡ names.items) }
     ensures err { IfErr result IsLarge }
 {
-    let one = small_within(alloc, positive, number_of(MOST_STATES))?;
-    let other = small_within(alloc, negative, most_states_beside(&one))?;
+    let one = small_automaton_within(alloc, positive, number_of(MOST_STATES))?;
+    let other = small_automaton_within(alloc, negative, most_states_beside(&one))?;
     let is_negated = is_smaller(&other, &one);
     match if is_negated { other } else { one } {
         Some(automaton) => Ok(Leaf {
@@ -74,7 +74,7 @@ fn is_smaller(
 
 /// Returns a small deterministic automaton of an automaton, or none if it would have over `most` states before it is
 /// made smaller, or is too large.
-fn small_within(
+fn small_automaton_within(
     alloc: Global,
     automaton: &NondeterministicAutomaton,
     most: u32,
@@ -82,7 +82,7 @@ fn small_within(
     ensures automaton { IfOk result (λ found. IfSome found IsWellFormed) }
     ensures memory { IsOkUnless result Refusal.Memory }
 {
-    match small(alloc, automaton, most) {
+    match small_automaton(alloc, automaton, most) {
         Ok(found) => Ok(Some(found)),
         Err(Refusal::Memory) => Err(Refusal::Memory),
         Err(_) => Ok(None),
@@ -91,7 +91,7 @@ fn small_within(
 
 /// Returns a small deterministic automaton of an automaton. Fails with [`TaskFault::TooLarge`] if it would have over
 /// `most` states before it is made smaller, or is too large.
-fn small(
+fn small_automaton(
     alloc: Global,
     automaton: &NondeterministicAutomaton,
     most: u32,

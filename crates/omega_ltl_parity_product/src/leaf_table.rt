@@ -117,7 +117,7 @@ impl<'a> LeafTable<'a> {
 
     /// Returns what stands in the place of the state in which runs begin.
     pub(crate) fn start(&self) -> u32 {
-        self.settled(self.leaf.automaton.start)
+        self.state_or_truth(self.leaf.automaton.start)
     }
 
     /// Returns the numbers of the edges of a state.
@@ -127,27 +127,27 @@ impl<'a> LeafTable<'a> {
 
     /// Returns what stands in the place of the target of an edge.
     pub(crate) fn target(&self, edge: u32) -> u32 {
-        self.settled(self.leaf.automaton.target(edge))
+        self.state_or_truth(self.leaf.automaton.target(edge))
     }
 
     /// Returns what stands in the place of a state at letters of none of its edges.
-    pub(crate) fn refused(&self) -> u32 {
-        decided(self.leaf.is_negated)
+    pub(crate) fn state_outside(&self) -> u32 {
+        truth_state(self.leaf.is_negated)
     }
 
     /// Returns a state, or the truth of the leaf if from the state each word is accepted, or none.
-    fn settled(&self, state: u32) -> u32 {
+    fn state_or_truth(&self, state: u32) -> u32 {
         let automaton = &self.leaf.automaton;
         let edges = automaton.places_of(state);
         let edge = edges.start;
         if edge >= edges.end {
-            return self.refused();
+            return self.state_outside();
         }
         let is_universal = automaton.target(edge) == state
             && automaton.colour(edge) % 2 == 0
             && automaton.letters_of(edge) == self.all.as_slice();
         if is_universal {
-            decided(!self.leaf.is_negated)
+            truth_state(!self.leaf.is_negated)
         } else {
             state
         }
@@ -185,7 +185,7 @@ impl<'a> LeafTable<'a> {
 }
 
 /// Returns what stands in the place of the state of a leaf whose truth is known.
-fn decided(value: bool) -> u32 {
+fn truth_state(value: bool) -> u32 {
     if value { TRUE } else { FALSE }
 }
 

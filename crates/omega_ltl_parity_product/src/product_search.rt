@@ -102,10 +102,10 @@ impl<'s, 'a> ProductSearch<'s, 'a> {
             states.push(table.start())?;
         }
         if let Some(truth) = self.truths.truth(states.as_slice())? {
-            self.universal(alloc)?;
+            self.universal_state(alloc)?;
             return Ok(truth);
         }
-        let mut state = self.truths.reduced(alloc, states.as_slice())?;
+        let mut state = self.truths.needed_states(alloc, states.as_slice())?;
         let tree = self.tree_of(alloc, state.as_slice())?;
         state.push(self.residues.first_leaf(tree))?;
         self.found.insert_full(state)?;
@@ -113,7 +113,7 @@ impl<'s, 'a> ProductSearch<'s, 'a> {
     }
 
     /// Returns the number of the state from which each word is accepted.
-    fn universal(&mut self, alloc: Global) -> Result<u32, AllocError> {
+    fn universal_state(&mut self, alloc: Global) -> Result<u32, AllocError> {
         let (number, _new) = self.found.insert_full(Vec::new(alloc))?;
         Ok(number_of(number))
     }
@@ -138,19 +138,32 @@ impl<'s, 'a> ProductSearch<'s, 'a> {
         let (leaf, states) = match state.split_last() {
             Some((leaf, states)) => (*leaf, states),
             None => {
-                let number = self.universal(alloc)?;
+                let number = self.universal_state(alloc)?;
                 return builder.add_edge(number, 0, self.all);
             }
         };
         let tree = self.tree_of(alloc, states)?;
-        let parts = parts_at(alloc, self.tables, &mut self.truths, self.all, states)?;
+        let mut universal = vec![in alloc; 0; self.all.len()]?;
+        let parts = parts_at(
+            alloc,
+            self.tables,
+            &mut self.truths,
+            self.all,
+            states,
+            &mut universal,
+        )?;
         for index in 0..parts.len() {
             self.add_edge(alloc, tree, leaf, parts.at(index), builder)?;
+        }
+        if universal.iter().any(|word| *word != 0) {
+            let number = self.universal_state(alloc)?;
+            builder.add_edge(number, 0, universal.as_slice())?;
         }
         Ok(())
     }
 
-    /// Builds the edge for a part of the letters, at which the whole is not false, at a state with a leaf of a tree.
+    /// Builds the edge for a part of the letters, at which the truth of the whole is open, at a state with a leaf of a
+    /// tree.
     fn add_edge(
         &mut self,
         alloc: Global,
@@ -161,12 +174,7 @@ impl<'s, 'a> ProductSearch<'s, 'a> {
     ) -> Result<(), Refusal>
         ensures { IfErr result IsLarge }
     {
-        // Parts at which the whole is false are left out.
-        if self.truths.truth(part.states)?.is_some() {
-            let number = self.universal(alloc)?;
-            return builder.add_edge(number, 0, part.letters);
-        }
-        let mut state = self.truths.reduced(alloc, part.states)?;
+        let mut state = self.truths.needed_states(alloc, part.states)?;
         let next = self.tree_of(alloc, state.as_slice())?;
         let step = self.residues.step(tree, leaf, part.marks, next);
         state.push(step.leaf)?;

@@ -11,14 +11,15 @@ use omega_text::{Refusal, TaskFault};
 use std::alloc::{AllocError, Global};
 
 /// Returns the parts of the letters `all` at which the leaves, which are in these states, come to the same states by
-/// the same marks. Parts at which the whole is false are left out. Fails with [`TaskFault::TooLarge`] if the letters
-/// take too many words.
+/// the same marks. Parts at which the whole is false are left out, and those at which it is true are added to
+/// `universal`. Fails with [`TaskFault::TooLarge`] if the letters take too many words.
 pub(crate) fn parts_at(
     alloc: Global,
     tables: &[LeafTable<'_>],
     truths: &mut Truths<'_>,
     all: &[u64],
     states: &[u32],
+    universal: &mut Vec<u64>,
 ) -> Result<Parts, Refusal>
     ensures { IfErr result IsLarge }
 {
@@ -38,9 +39,9 @@ pub(crate) fn parts_at(
             leaf,
             parts: Parts::new(alloc, states.len(), all.len()),
             left: Vec::new(alloc),
-            common: Vec::new(alloc),
+            common: Vec::from_slice(alloc, all)?,
         };
-        split.add_all(table, state, &parts, truths)?;
+        split.add_all(table, state, &parts, truths, universal)?;
         parts = split.parts;
         if parts.word_length() > MOST_PART_WORDS {
             return Err(Refusal::Task(TaskFault::TooLarge));
@@ -67,9 +68,10 @@ impl Split {
         state: u32,
         parts: &Parts,
         truths: &mut Truths<'_>,
+        universal: &mut Vec<u64>,
     ) -> Result<(), AllocError> {
         for index in 0..parts.len() {
-            self.add_part(table, state, parts.at(index), truths)?;
+            self.add_part(table, state, parts.at(index), truths, universal)?;
         }
         Ok(())
     }
@@ -81,32 +83,34 @@ impl Split {
         state: u32,
         part: Part<'_>,
         truths: &mut Truths<'_>,
+        universal: &mut Vec<u64>,
     ) -> Result<(), AllocError> {
         self.left.clear();
         self.left.extend_from_slice(part.letters)?;
         for edge in table.edges_of(state) {
-            if self.take_letters(table.letters.at(edge))? {
+            if self.take_letters(table.letters.at(edge)) {
                 let marks = part.marks | table.marks_of(state, edge);
-                self.add_common(part, marks, table.target(edge), truths)?;
+                self.add_common(part, marks, table.target(edge), truths, universal)?;
             }
         }
         if self.take_rest()? {
-            self.add_common(part, part.marks, table.refused(), truths)?;
+            let state = table.state_outside();
+            self.add_common(part, part.marks, state, truths, universal)?;
         }
         Ok(())
     }
 
-    /// Moves the letters of an edge from those left. Returns whether there are any.
-    fn take_letters(&mut self, letters: &[u64]) -> Result<bool, AllocError> {
-        self.common.clear();
-        let mut is_some = false;
-        for (word, own) in self.left.iter_mut().zip(letters) {
+    /// Moves the letters of an edge from those left. Returns whether there are any. All tables are as long.
+    fn take_letters(&mut self, letters: &[u64]) -> bool {
+        let mut some = 0u64;
+        let left = self.left.iter_mut();
+        for ((word, common), own) in left.zip(self.common.iter_mut()).zip(letters) {
             let taken = *word & *own;
             *word &= !*own;
-            self.common.push(taken)?;
-            is_some |= taken != 0;
+            *common = taken;
+            some |= taken;
         }
-        Ok(is_some)
+        some != 0
     }
 
     /// Moves all letters from those left. Returns whether there are any.
@@ -117,13 +121,14 @@ impl Split {
     }
 
     /// Adds the part of the letters taken last, with these marks and with `state` for the leaf, unless the whole is
-    /// false there.
+    /// true or false there.
     fn add_common(
         &mut self,
         part: Part<'_>,
         marks: u64,
         state: u32,
         truths: &mut Truths<'_>,
+        universal: &mut Vec<u64>,
     ) -> Result<(), AllocError> {
         let taken = Part {
             letters: self.common.as_slice(),
@@ -131,10 +136,23 @@ impl Split {
             states: part.states,
         };
         self.parts.push(taken, self.leaf, state)?;
+        if state != TRUE && state != FALSE {
+            return Ok(());
+        }
         let last = self.parts.len().saturating_sub(1);
-        if truths.truth(self.parts.at(last).states)? == Some(false) {
+        if let Some(truth) = truths.truth(self.parts.at(last).states)? {
+            if truth {
+                unite(universal, self.common.as_slice());
+            }
             self.parts.pop();
         }
         Ok(())
+    }
+}
+
+/// Adds letters to a table that is as long.
+fn unite(table: &mut Vec<u64>, letters: &[u64]) {
+    for (word, more) in table.iter_mut().zip(letters) {
+        *word |= *more;
     }
 }

@@ -33,14 +33,14 @@ impl<'a> Truths<'a> {
     pub(crate) fn truth(&mut self, states: &[u32]) -> Result<Option<bool>, AllocError> {
         self.leaves.clear();
         for state in states {
-            self.leaves.push(known(*state))?;
+            self.leaves.push(truth_of_state(*state))?;
         }
         find_truths(self.nodes, self.leaves.as_slice(), &mut self.truths)
     }
 
     /// Returns the states of the leaves on which the whole depends, whose truth is open in these states. Other leaves
     /// are false unless they are true.
-    pub(crate) fn reduced(
+    pub(crate) fn needed_states(
         &mut self,
         alloc: Global,
         states: &[u32],
@@ -62,7 +62,7 @@ impl<'a> Truths<'a> {
 }
 
 /// Returns the truth of a leaf with this in the place of its state, or none if it is open.
-fn known(state: u32) -> Option<bool> {
+fn truth_of_state(state: u32) -> Option<bool> {
     if state == TRUE {
         return Some(true);
     }

@@ -1,5 +1,6 @@
 //! Words as stems and cycles of letters.
 use crate::DeterministicAutomaton;
+use omega_ltl_determinization::has_letter;
 
 /// The stem and the cycle of a word, and whether it is accepted.
 pub(crate) type WordRow<'a> = (&'a [u32], &'a [u32], bool);
@@ -11,24 +12,29 @@ struct Place {
     least: u32,
 }
 
+/// Returns the place after a letter.
+fn next_place(automaton: &DeterministicAutomaton, from: Place, letter: u32) -> Place {
+    if let Some(state) = from.state {
+        for edge in automaton.places_of(state) {
+            if has_letter(automaton.letters_of(edge), letter) {
+                return Place {
+                    state: Some(automaton.target(edge)),
+                    least: from.least.min(automaton.colour(edge)),
+                };
+            }
+        }
+    }
+    Place {
+        state: None,
+        least: 1,
+    }
+}
+
 /// Returns the place after some letters.
-fn after(automaton: &DeterministicAutomaton, from: Place, letters: &[u32]) -> Place {
+fn place_after(automaton: &DeterministicAutomaton, from: Place, letters: &[u32]) -> Place {
     let mut place = from;
     for letter in letters {
-        let edge = match place.state {
-            Some(state) => automaton.edge_at(state, *letter),
-            None => None,
-        };
-        place = match edge {
-            Some(edge) => Place {
-                state: Some(edge.target),
-                least: place.least.min(edge.colour),
-            },
-            None => Place {
-                state: None,
-                least: 1,
-            },
-        };
+        place = next_place(automaton, place, *letter);
     }
     place
 }
@@ -39,13 +45,13 @@ fn accepts(automaton: &DeterministicAutomaton, stem: &[u32], cycle: &[u32]) -> b
         state: Some(automaton.start),
         least: u32::MAX,
     };
-    let mut place = after(automaton, start, stem);
+    let mut place = place_after(automaton, start, stem);
     for _ in 0..automaton.state_count() {
-        place = after(automaton, place, cycle);
+        place = place_after(automaton, place, cycle);
     }
     place.least = u32::MAX;
     for _ in 0..automaton.state_count() {
-        place = after(automaton, place, cycle);
+        place = place_after(automaton, place, cycle);
     }
     place.state.is_some() && place.least % 2 == 0
 }
