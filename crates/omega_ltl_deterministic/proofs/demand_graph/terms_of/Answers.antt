@@ -1,0 +1,6 @@
+-- demands that were found to be below their count
+use Rattle.std.proofs.Common.{arith}
+use Rattle.omega_ltl_deterministic.proofs.demand_graph.terms_of.Goals as goal
+
+pub edges_of-requires-clause-below : goal.edges_of-requires-clause-below
+edges_of-requires-clause-below c d h = omega (arith, c.len.ensures, c.are_below.ensures c.if-are_below.true d h)

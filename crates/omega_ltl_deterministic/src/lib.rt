@@ -1,0 +1,30 @@
+//! Deterministic parity automata of formulas of linear temporal logic, by a search of which is proved that it is safe,
+//! ends, keeps its limits and returns an automaton of the promised form. Which words it accepts is judged by its user.
+//!
+//! [deterministic_candidate] takes a formula apart into its maximal temporal parts, makes each of them deterministic,
+//! and puts them together again by their product.
+#![tactic(auto)]
+
+mod acceptance;
+mod candidate;
+mod cubes;
+mod demand_graph;
+mod forming;
+mod judging;
+mod labels;
+mod leaf_formula;
+mod leaves;
+mod limits;
+mod parts;
+mod question;
+mod questions;
+mod state_edges;
+#[cfg(test)]
+mod tests;
+mod words;
+
+pub use candidate::deterministic_candidate;
+pub use limits::{MOST_COLOURS, MOST_CUBES, candidate_limits_are_stated};
+pub use omega_hoa_automaton::Automaton;
+pub use omega_ltl_formula::Formula;
+pub use omega_text::Refusal;
