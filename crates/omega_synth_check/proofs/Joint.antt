@@ -34,7 +34,8 @@ use Rattle.omega_lang_intersection.proofs.Made.{IsMade, made}
 use Rattle.omega_lang_intersection.proofs.Made.{numbered_within}
 use Rattle.omega_lang_intersection.proofs.Standing.{Row, label_is, product_named, row, second_is}
 use Rattle.omega_synth_check.specs.CounterJudging.{GoesAt, NamedLetter}
-use Rattle.omega_synth_check.specs.private.Letterless.{enters_sink, is_way_out, source_in, source_of}
+use Rattle.omega_synth_check.specs.WaysOut.{enters_sink, is_way_out}
+use Rattle.omega_synth_check.specs.private.Letterless.{source_in, source_of}
 use Rattle.omega_synth_check.proofs.Sides.{AreNamedAmong, IsSeenEdge, named_second, seen, seen_edge, side_goes}
 
 single : (x y : ℕ) → x ∷ [] ≡ y ∷ [] → x ≡ y

@@ -25,8 +25,8 @@ use Rattle.omega_synth_check.specs.CounterRefusing.{system_numbers}
 use Rattle.omega_synth_check.specs.Judging.{IsReached}
 use Rattle.omega_synth_check.specs.declared.counter_judgement.LetterlessPair.{LetterlessPair}
 use Rattle.omega_synth_check.specs.declared.without_letter.StateWithoutLetter.{StateWithoutLetter}
-use Rattle.omega_synth_check.specs.private.Letterless.{AreWaysOut, IsBeside, is_way_out, pair_of, source_in, source_of}
-use Rattle.omega_synth_check.specs.private.WaysOut.{HasLetterIn, HasWayOut, IsStateFound, flag}
+use Rattle.omega_synth_check.specs.private.Letterless.{AreWaysOut, IsBeside, pair_of, source_in, source_of}
+use Rattle.omega_synth_check.specs.WaysOut.{HasLetterIn, HasWayOut, IsStateFound, flag, is_way_out}
 use Rattle.omega_synth_check.proofs.Coming.{IsKnown, IsMetPair, come_met, reached_known}
 use Rattle.omega_synth_check.proofs.Joint.{IsSplit, split, tells}
 use Rattle.omega_synth_check.proofs.PairLetters.{has_letter, no_letter, out_way}
@@ -77,7 +77,7 @@ module _ (one own rest both : Description) (graph : PairGraph) (beside : IsBesid
         (each _ met.reached)
 
     -- or a state without one
-    module _ (found : StateWithoutLetter) (is_found : IsStateFound both system out (Some found)) where
+    module _ (found : StateWithoutLetter) (is_found : IsStateFound both both system out (Some found)) where
       abbrev number : ℕ
       number = found.number
 
@@ -166,17 +166,17 @@ module _ (one own rest both : Description) (graph : PairGraph) (beside : IsBesid
   -- so a search of the product shows, whatever stands for its numbers of propositions and its flags
   module _ (controlled : List (List ℕ)) (flags : List Bool) (are : AreWaysOut rest own.states graph flags) (numbers : List ℕ) (marked : List Bool)
       (numbers_are : numbers ≡ system_numbers both.propositions controlled) (marked_are : marked ≡ flags) (found : Option StateWithoutLetter)
-      (is_found : IsStateFound both numbers (flag marked) found) where
-    shown : IsStateFound both (system_numbers both.propositions controlled) (flag flags) found
-    shown = subst (λ (fs : List Bool). IsStateFound both (system_numbers both.propositions controlled) (flag fs) found) marked_are
-        (subst (λ (ns : List ℕ). IsStateFound both ns (flag marked) found) numbers_are is_found)
+      (is_found : IsStateFound both both numbers (flag marked) found) where
+    shown : IsStateFound both both (system_numbers both.propositions controlled) (flag flags) found
+    shown = subst (λ (fs : List Bool). IsStateFound both both (system_numbers both.propositions controlled) (flag fs) found) marked_are
+        (subst (λ (ns : List ℕ). IsStateFound both both ns (flag marked) found) numbers_are is_found)
 
     pub none_shown : found ≡ None → FollowsAll one own controlled
     none_shown none =
-        follows_all controlled flags are (subst (IsStateFound both (system_numbers both.propositions controlled) (flag flags)) none shown)
+        follows_all controlled flags are (subst (IsStateFound both both (system_numbers both.propositions controlled) (flag flags)) none shown)
 
     pub pair_shown : (state : StateWithoutLetter) → found ≡ Some state → (pair : LetterlessPair) → pair ≡ pair_of one rest graph state.number state.stem
         → IsLetterless one own controlled pair
     pair_shown state some pair is_pair =
         subst (IsLetterless one own controlled) (sym is_pair)
-        (letterless_is controlled flags are state (subst (IsStateFound both (system_numbers both.propositions controlled) (flag flags)) some shown))
+        (letterless_is controlled flags are state (subst (IsStateFound both both (system_numbers both.propositions controlled) (flag flags)) some shown))

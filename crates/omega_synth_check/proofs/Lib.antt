@@ -11,6 +11,7 @@ pub mod KeptParts
 pub mod Searches
 pub mod Strategies
 pub mod WaysOut
+pub mod WayRefusals
 pub mod Sides
 pub mod Joint
 pub mod Rests

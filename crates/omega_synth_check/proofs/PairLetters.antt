@@ -22,8 +22,7 @@ use Rattle.omega_lang_word_laws.proofs.naming.Named.{allowed_same, own_place}
 use Rattle.omega_synth_controllers.specs.Controllers.{Answers}
 use Rattle.omega_synth_check.specs.CounterJudging.{GoesAt, GoesOn, HasLetter, IsGiven, NamedLetter}
 use Rattle.omega_synth_check.specs.CounterRefusing.{system_numbers}
-use Rattle.omega_synth_check.specs.private.Letterless.{is_way_out}
-use Rattle.omega_synth_check.specs.private.WaysOut.{HasLetterIn, HasWayOut, IsWayOut}
+use Rattle.omega_synth_check.specs.WaysOut.{HasLetterIn, HasWayOut, IsWayOut, is_way_out}
 use Rattle.omega_synth_check.proofs.Joint.{IsSplit, IsTogether, pairs, sides_go, split, tells, together}
 use Rattle.omega_synth_check.proofs.Rests.{Lacks, goes_or_lacks, goes_within, lacks_stays, lost_goes, rest_goes}
 use Rattle.omega_synth_check.proofs.Sides.{seen}

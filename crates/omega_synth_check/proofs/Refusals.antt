@@ -11,8 +11,9 @@ use Rattle.omega_hoa_edges.proofs.Refusals.{task_weaker}
 use Rattle.omega_synth_check.specs.CounterRefusing as counter
 use Rattle.omega_synth_check.specs.CounterRefusing.{IsCounterRefusal}
 use Rattle.omega_synth_check.specs.Judging.{IsReached}
-use Rattle.omega_synth_check.specs.Refusing.{IsHardEdge, IsJudgeRefusal, IsLetterFault, IsLetterRefusal, IsLetterSearched, branches, hard_label, not_all, not_asked}
-use Rattle.omega_synth_check.specs.private.Searching.{HaveHardEdge, IsFormFault, IsFormRefusal, IsLackOf}
+use Rattle.omega_synth_check.specs.Refusing.{IsFormFault, IsFormRefusal, IsHardEdge, IsJudgeRefusal, IsLetterFault, IsLetterRefusal, IsLetterSearched, branches, hard_label, not_all, not_asked}
+use Rattle.omega_synth_check.specs.private.Searching.{HaveHardEdge}
+use Rattle.omega_synth_check.specs.Lacks.{IsLackOf}
 use Rattle.omega_synth_check.specs.declared.judgement.Lack.{Lack}
 
 -- a label of an edge of a state that is reached is given up

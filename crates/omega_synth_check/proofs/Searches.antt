@@ -12,7 +12,7 @@ use Rattle.omega_synth_check.specs.Judging.{IsReached}
 use Rattle.omega_synth_check.specs.Refusing.{HasManyStates, IsLetterFault, many_states}
 use Rattle.omega_synth_check.specs.declared.meeting.StateEntry.{StateEntry}
 use Rattle.omega_synth_check.specs.private.Meeting.{AreMet, Extends, HasNext, HasStarts, state_at}
-use Rattle.omega_synth_check.specs.private.Searching.{AreReachedSettled, IsSettled}
+use Rattle.omega_synth_check.specs.Lacks.{AreReachedSettled, IsSettled}
 use Rattle.omega_synth_check.proofs.MetStates.{has_kept, state_kept}
 use Rattle.omega_synth_check.proofs.Reached.{all_reached, reached_met}
 

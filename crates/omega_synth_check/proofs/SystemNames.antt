@@ -11,7 +11,7 @@ use Rattle.omega_lang_word_laws.proofs.meeting.Lists.{contains_filter, filter_co
 use Rattle.omega_synth_check.specs.CounterRefusing.{system_numbers}
 
 -- a name that a test finds is one of the names
-found_name : (name : List ℕ) (names : List (List ℕ)) → list_any (bytes_eq name) names ≡ true → Contains names name
+pub found_name : (name : List ℕ) (names : List (List ℕ)) → list_any (bytes_eq name) names ≡ true → Contains names name
 found_name name [] found = absurd (false≢true found)
 found_name name (x ∷ xs) found = go (bytes_eq name x) refl found (λ rest. found_name name xs rest)
   where
@@ -19,7 +19,7 @@ found_name name (x ∷ xs) found = go (bytes_eq name x) refl found (λ rest. fou
     go true e some rest = subst (Contains (x ∷ xs)) (sym ((bytes_eq-Decides name x).0 e)) (Contains-here x xs)
     go false e some rest = Contains-there x name xs (rest some)
 
-name_found : (name : List ℕ) (names : List (List ℕ)) → Contains names name → list_any (bytes_eq name) names ≡ true
+pub name_found : (name : List ℕ) (names : List (List ℕ)) → Contains names name → list_any (bytes_eq name) names ≡ true
 name_found name [] has = absurd (Contains-nothing name has)
 name_found name (x ∷ xs) has = elim (Contains-cases x name xs has) [
   | inl here ↦ ap (λ b. b || list_any (bytes_eq name) xs) ((bytes_eq-Decides name x).1 (sym here))

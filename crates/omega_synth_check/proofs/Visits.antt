@@ -9,7 +9,8 @@ use Rattle.omega_synth_game.specs.Making.{AreQuestionsOf, HaveFewInputs}
 use Rattle.omega_synth_game.specs.RoundsOf.{holds_in, letter_of}
 use Rattle.omega_synth_check.specs.Judging.{IsAnswered}
 use Rattle.omega_synth_check.specs.private.Leaving.{AreLeavers}
-use Rattle.omega_synth_check.specs.private.Searching.{AnswersEach, IsVisited, NoneAnswers, SomeAnswers}
+use Rattle.omega_synth_check.specs.Lacks.{AnswersEach}
+use Rattle.omega_synth_check.specs.private.Searching.{IsVisited, NoneAnswers, SomeAnswers}
 use Rattle.omega_synth_check.proofs.Steps.{answer_steps, step_leaves}
 
 module _ (a : Description) (controlled numbers : List ℕ) (letters answers : List (List ℕ)) (are : AreQuestionsOf a controlled numbers letters answers) where

@@ -7,7 +7,8 @@ use Rattle.omega_synth_game.specs.Making.{AllLeave}
 use Rattle.omega_synth_check.specs.private.Leaving.{AreLeavers}
 use Rattle.omega_synth_game.specs.RoundsOf.{holds_in}
 use Rattle.omega_synth_check.specs.private.Searching.{NoneAnswers, SomeAnswers}
-use Rattle.omega_synth_check.specs.private.WaysOut.{IsSpared, IsVisitedFor, IsWayOut}
+use Rattle.omega_synth_check.specs.private.Blocked.{IsSpared, IsVisitedFor}
+use Rattle.omega_synth_check.specs.WaysOut.{IsWayOut}
 
 module _ (a : Description) (controlled : List ℕ) (out : ℕ → Bool) (state : ℕ) (numbers : List ℕ) (leavers : AreLeavers a state numbers) where
   abbrev ways : List ℕ

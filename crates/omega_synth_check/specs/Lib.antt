@@ -5,8 +5,10 @@ pub use Rattle.omega_text.specs.Refusal
 pub use Rattle.omega_synth_controllers.specs.Controllers
 pub mod Judging
 pub mod Refusing
+pub mod Lacks
 pub mod Laws
 pub mod CounterJudging
 pub mod CounterRefusing
+pub mod WaysOut
 pub mod CounterLaws
 pub mod private

@@ -27,6 +27,16 @@ pub record IsReadable (controller : Description) : Type 0 where
   pub plain : has_universal_branching controller ≡ false
   pub all : AcceptsAll controller
 
+-- the fault of an automaton that cannot be read as a controller
+abbrev pub IsFormFault : Description → TaskFault → Type 0
+IsFormFault controller fault =
+    ((fault ≡ UniversalBranch) × (has_universal_branching controller ≡ true))
+    ⊎ ((fault ≡ NotParity) × (has_universal_branching controller ≡ false) × ¬ AcceptsAll controller)
+
+-- its refusal
+abbrev pub IsFormRefusal : Description → Refusal → Type 0
+IsFormRefusal controller = or_task (IsFormFault controller) never
+
 -- it can, and no refusal of the complement applies to the specification
 pub record AreJudged (specification controller : Description) : Type 0 where
   pub readable : IsReadable controller

@@ -2,5 +2,5 @@
 pub mod Leaving
 pub mod Meeting
 pub mod Searching
-pub mod WaysOut
+pub mod Blocked
 pub mod Letterless

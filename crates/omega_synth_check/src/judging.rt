@@ -5,7 +5,7 @@ ghost use Rattle.omega_hoa_automaton.specs.Branching.{has_universal_branching};
 ghost use Rattle.omega_lang_inclusion.specs.Containing.{IsContainment};
 ghost use Rattle.omega_synth_check.specs.Judging.{IsJudgement};
 ghost use Rattle.omega_synth_check.specs.Refusing.{AreJudged, IsJudgeRefusal};
-ghost use Rattle.omega_synth_check.specs.private.Searching.{IsLackOf};
+ghost use Rattle.omega_synth_check.specs.Lacks.{IsLackOf};
 
 use crate::judgement::{Judgement, Lack};
 use crate::reading::judge_form;

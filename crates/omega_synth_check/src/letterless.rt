@@ -96,7 +96,7 @@ fn letterless_in(
     joint.keeps_limits();
     let flags = ways_out(alloc, rest, strategy.state_count(), graph)?;
     let system = numbers_named(alloc, joint.propositions(), controlled)?;
-    let found = state_without_letter(alloc, joint, system.as_slice(), flags.as_slice())?;
+    let found = state_without_letter(alloc, joint, joint, system.as_slice(), flags.as_slice())?;
     match found {
         None => Ok(None),
         Some(found) => {

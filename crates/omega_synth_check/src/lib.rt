@@ -39,3 +39,7 @@ pub use laws::{
 };
 pub use omega_hoa_automaton::{Automaton, Refusal};
 pub use omega_lang_inclusion::Example;
+pub use reading::judge_form;
+pub use searching::lack_of;
+pub use ways_out::{is_name_among, is_way_out, numbers_named};
+pub use without_letter::{StateWithoutLetter, state_without_letter};

@@ -3,8 +3,8 @@
 ghost use Rattle.std.specs.Prelude.{◌≡◌, ◌<◌, ◌++◌, ◌∷◌, [], Contains, IfOk};
 ghost use Rattle.std.specs.Prelude.{IsOkUnless, OnOk, false, if◌then◌else◌, length};
 ghost use Rattle.omega_hoa_automaton.specs.Branching.{has_universal_branching};
-ghost use Rattle.omega_synth_check.specs.private.Meeting.{Extends, HasStarts, IsEntered};
-ghost use Rattle.omega_synth_check.specs.private.Meeting.{IsMetOf, IsStemTo, state_at};
+ghost use Rattle.omega_synth_check.specs.private.Meeting.{Extends, HasStarts, IsEntered, IsMetOf, state_at};
+ghost use Rattle.omega_synth_check.specs.WaysOut.{IsStemTo};
 
 use indexmap::IndexSet;
 use omega_hoa_automaton::{Automaton, Refusal};

@@ -1,8 +1,7 @@
 //! Whether an automaton can be read as a controller.
 
 ghost use Rattle.std.specs.Prelude.{◌↔◌, IfErr, IsTrue, OnOk};
-ghost use Rattle.omega_synth_check.specs.Refusing.{AcceptsAll, IsReadable};
-ghost use Rattle.omega_synth_check.specs.private.Searching.{IsFormRefusal};
+ghost use Rattle.omega_synth_check.specs.Refusing.{AcceptsAll, IsFormRefusal, IsReadable};
 
 use omega_hoa_acceptance::is_buchi;
 use omega_hoa_automaton::{Automaton, has_universal_branching};
@@ -10,7 +9,7 @@ use omega_text::{Refusal, TaskFault};
 
 /// Judges that `controller` can be read as a controller. Fails with [TaskFault::UniversalBranch] if a start or an edge
 /// lists several states, and with [TaskFault::NotParity] unless its acceptance is `all`.
-pub(crate) fn judge_form(controller: &Automaton) -> Result<(), Refusal>
+pub fn judge_form(controller: &Automaton) -> Result<(), Refusal>
     ensures readable { OnOk result (IsReadable controller.now) }
     ensures refused { IfErr result (IsFormRefusal controller.now) }
 {

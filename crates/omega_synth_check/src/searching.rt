@@ -4,7 +4,8 @@ ghost use Rattle.std.specs.Prelude.{◌≡◌, ◌<◌, IfErr, IfOk, IsOkUnless,
 ghost use Rattle.omega_hoa_automaton.specs.Branching.{has_universal_branching};
 ghost use Rattle.omega_synth_check.specs.Refusing.{IsLetterRefusal};
 ghost use Rattle.omega_synth_check.specs.private.Meeting.{Extends, HasNext, HasStarts, IsMetOf, state_at};
-ghost use Rattle.omega_synth_check.specs.private.Searching.{IsLackOf, IsSearch, IsSearched, IsVisited};
+ghost use Rattle.omega_synth_check.specs.Lacks.{IsLackOf};
+ghost use Rattle.omega_synth_check.specs.private.Searching.{IsSearch, IsSearched, IsVisited};
 
 use crate::entering::enter_all;
 use crate::judgement::Lack;
@@ -25,12 +26,14 @@ pub(crate) struct Lacking {
     pub(crate) letter: Numbers,
 }
 
-/// Returns a state of `controller` that is reached and does not answer a letter, and a stem to it; none if each such
-/// state answers each letter. The states are asked as a search breadth first meets them.
+/// Returns a state of `controller` that is reached and does not answer a letter of the environment, and a stem to it;
+/// none if each such state answers each letter. The system controls the propositions with the numbers `controlled`. The
+/// states are asked as a search breadth first meets them.
 ///
-/// Fails with [TaskFault::TooLarge] if over `MOST_STATES` states are met, and as `enter_all` and `unanswered_letter`
-/// do.
-pub(crate) fn lack_of(
+/// Fails with [TaskFault::TooLarge] if over `MOST_STATES` states are met, or if a label is too deep or too large, and
+/// with [TaskFault::TooManyPropositions] if a label is left undecided, or if the labels of a state mention over
+/// `MOST_MENTIONED` propositions of the environment.
+pub fn lack_of(
     alloc: Global,
     controller: &Automaton,
     controlled: &[u32],

@@ -5,7 +5,8 @@ ghost use Rattle.omega_lang_runs.specs.Places.{ArePlaces};
 ghost use Rattle.std.specs.List.{list_any};
 ghost use Rattle.std.specs.Str.{bytes_eq};
 ghost use Rattle.omega_synth_check.specs.CounterRefusing.{system_numbers};
-ghost use Rattle.omega_synth_check.specs.private.Letterless.{AreWaysOut, is_way_out};
+ghost use Rattle.omega_synth_check.specs.private.Letterless.{AreWaysOut};
+ghost use Rattle.omega_synth_check.specs.WaysOut.{is_way_out};
 
 use omega_hoa_automaton::Automaton;
 use omega_lang_product::PairGraph;
@@ -34,7 +35,7 @@ pub(crate) fn ways_out(
 }
 
 /// Whether the edge with this `number`, found by the `places` of all edges, enters the state `sink` from another state.
-fn is_way_out(complement: &Automaton, places: &[EdgePlace], sink: u32, number: u32) -> bool
+pub fn is_way_out(complement: &Automaton, places: &[EdgePlace], sink: u32, number: u32) -> bool
     requires { ArePlaces complement.now places.now }
     ensures { result ≡ is_way_out complement.now sink number }
 {
@@ -49,7 +50,7 @@ fn is_way_out(complement: &Automaton, places: &[EdgePlace], sink: u32, number: u
 }
 
 /// Returns the numbers of those of `names` that are among `controlled`.
-pub(crate) fn numbers_named(
+pub fn numbers_named(
     alloc: Global,
     names: &[ByteString],
     controlled: &[ByteString],
@@ -68,7 +69,7 @@ pub(crate) fn numbers_named(
 }
 
 /// Whether `name` is one of `names`.
-fn is_name_among(names: &[ByteString], name: &[u8]) -> bool
+pub fn is_name_among(names: &[ByteString], name: &[u8]) -> bool
     ensures { result ≡ list_any (bytes_eq name.now) names.now }
 {
     names.iter().any(|other| name == other.as_slice())

@@ -5,11 +5,10 @@ ghost use Rattle.std.specs.Prelude.{IsOkUnless, OnOk, false, length};
 ghost use Rattle.omega_hoa_automaton.specs.Branching.{has_universal_branching};
 ghost use Rattle.omega_lang_runs.specs.Places.{ArePlaces};
 ghost use Rattle.omega_synth_game.specs.Making.{IsQuestionsOfRefusal};
-ghost use Rattle.omega_synth_check.specs.Refusing.{IsLetterRefusal};
 ghost use Rattle.omega_synth_check.specs.private.Meeting.{Extends, HasNext, HasStarts, IsMetOf, state_at};
 ghost use Rattle.omega_synth_check.specs.private.Searching.{IsSearch, SomeAnswers};
-ghost use Rattle.omega_synth_check.specs.private.WaysOut.{IsBlockedAmong, IsSpared, IsStateFound};
-ghost use Rattle.omega_synth_check.specs.private.WaysOut.{IsVisitedFor, flag};
+ghost use Rattle.omega_synth_check.specs.private.Blocked.{IsBlockedAmong, IsSpared, IsVisitedFor};
+ghost use Rattle.omega_synth_check.specs.WaysOut.{IsStateFound, IsWayRefusal, flag};
 
 use crate::entering::enter_all;
 use crate::leaving::Leaving;
@@ -24,12 +23,13 @@ use std::alloc::Global;
 
 /// A state in which each letter of the environment has an answer by a way out.
 #[derive(Drop)]
-pub(crate) struct StateWithoutLetter {
-    pub(crate) state: u32,
+pub struct StateWithoutLetter {
+    /// The number of the state.
+    pub state: u32,
     /// The number of a way out of the state.
-    pub(crate) number: u32,
-    /// The numbers of edges that lead to the state from a start.
-    pub(crate) stem: Seq<u32>,
+    pub number: u32,
+    /// The numbers of edges that lead to the state from a start, in order.
+    pub stem: Seq<u32>,
 }
 
 /// The place of such a state among those that were met, and the number of a way out of it.
@@ -39,55 +39,71 @@ pub(crate) struct Blocked {
     pub(crate) number: u32,
 }
 
-/// Returns a state of `automaton` that is reached and in which the environment has no letter; none if it has one in
-/// each. The `ways_out` say of each edge, by its number, whether it is one. The states are asked as a search breadth
-/// first meets them. Fails as `first_lacking` does.
-pub(crate) fn state_without_letter(
+/// Returns a state of `automaton` that is reached and in which the environment has no letter, so that some way out of
+/// the state answers each letter; none if it has one in each. The ways out are edges of `other`, which has the states
+/// of `automaton`, if not more: `ways_out` says of each, by its number, whether it is one. The system controls the
+/// propositions of `other` with the numbers `controlled`. The states are asked as a search breadth first meets them.
+///
+/// Fails with [TaskFault::TooLarge] if over `MOST_STATES` states are met, or if a label is too deep or too large, and
+/// with [TaskFault::TooManyPropositions] if a label is left undecided, or if the labels of the ways out of a state
+/// mention over `MOST_MENTIONED` propositions of the environment.
+pub fn state_without_letter(
     alloc: Global,
     automaton: &Automaton,
+    other: &Automaton,
     controlled: &[u32],
     ways_out: &[bool],
 ) -> Result<Option<StateWithoutLetter>, Refusal>
-    requires { has_universal_branching automaton.now ≡ false }
-    ensures found { IfOk result (IsStateFound automaton.now controlled.now (flag ways_out.now)) }
-    ensures refused { IfErr result (IsLetterRefusal automaton.now controlled.now) }
+    requires plain { has_universal_branching automaton.now ≡ false }
+    requires other { has_universal_branching other.now ≡ false }
+    ensures found { IfOk result (IsStateFound automaton.now other.now controlled.now (flag ways_out.now)) }
+    ensures refused { IfErr result (IsWayRefusal automaton.now other.now controlled.now) }
 {
     automaton.keeps_limits();
+    other.keeps_limits();
     let leaving = Leaving::of(alloc, automaton)?;
     let search = ControllerSearch {
         automaton,
         leaving: &leaving,
         controlled,
     };
+    let other_leaving = Leaving::of(alloc, other)?;
+    let asked = ControllerSearch {
+        automaton: other,
+        leaving: &other_leaving,
+        controlled,
+    };
     let mut met = MetStates::starts(alloc, automaton)?;
-    let blocked = first_blocked(alloc, &search, ways_out, &mut met)?;
-    let found = with_stem(alloc, automaton, controlled, ways_out, &met, blocked)?;
+    let blocked = first_blocked(alloc, &search, &asked, ways_out, &mut met)?;
+    let found = with_stem(alloc, automaton, other, controlled, ways_out, &met, blocked)?;
     Ok(found)
 }
 
 /// Returns the first state in which the search finds that the environment has no letter; none if it has one in each
-/// state that is reached. Adds the states that are met.
+/// state that is reached. Adds the states that are met. The ways out are edges of the automaton of `asked`.
 fn first_blocked(
     alloc: Global,
     search: &ControllerSearch<'_>,
+    asked: &ControllerSearch<'_>,
     ways_out: &[bool],
     met: &mut MetStates,
 ) -> Result<Option<Blocked>, Refusal>
     requires search { IsSearch search.now }
+    requires asked { IsSearch asked.now }
     requires met { IsMetOf search.now.automaton.now met.old }
     requires starts { HasStarts search.now.automaton.now met.old.states.keys }
     ensures met { OnOk result (IsMetOf search.now.automaton.now met.new) }
-    ensures blocked { IfOk result (IsBlockedAmong search.now.automaton.now search.now.controlled.now
-        (flag ways_out.now) met.new.states.keys) }
-    ensures refused { IfErr result
-        (IsLetterRefusal search.now.automaton.now search.now.controlled.now) }
+    ensures blocked { IfOk result (IsBlockedAmong search.now.automaton.now asked.now.automaton.now
+        asked.now.controlled.now (flag ways_out.now) met.new.states.keys) }
+    ensures refused { IfErr result (IsWayRefusal search.now.automaton.now asked.now.automaton.now
+        asked.now.controlled.now) }
 {
     let mut at = 0;
     while at < met.len() {
         if MOST_STATES < met.len() {
             return Err(Refusal::Task(TaskFault::TooLarge));
         }
-        match way_out_at(alloc, search, ways_out, met, at)? {
+        match way_out_at(alloc, search, asked, ways_out, met, at)? {
             Some(number) => return Ok(Some(Blocked { place: at, number })),
             None => {}
         }
@@ -101,33 +117,36 @@ fn first_blocked(
 fn way_out_at(
     alloc: Global,
     search: &ControllerSearch<'_>,
+    asked: &ControllerSearch<'_>,
     ways_out: &[bool],
     met: &mut MetStates,
     at: usize,
 ) -> Result<Option<u32>, Refusal>
     requires search { IsSearch search.now }
+    requires asked { IsSearch asked.now }
     requires met { IsMetOf search.now.automaton.now met.old }
     requires at { at < length met.old.states.keys }
     ensures met { OnOk result (IsMetOf search.now.automaton.now met.new) }
     ensures extends { OnOk result (Extends met.old.states.keys met.new.states.keys) }
     ensures next { OnOk result
         (HasNext search.now.automaton.now (state_at met.old.states.keys at) met.new.states.keys) }
-    ensures way { IfOk result (IsVisitedFor search.now.automaton.now search.now.controlled.now
+    ensures way { IfOk result (IsVisitedFor asked.now.automaton.now asked.now.controlled.now
         (flag ways_out.now) (state_at met.old.states.keys at)) }
-    ensures refused { IfErr result
-        (IsLetterRefusal search.now.automaton.now search.now.controlled.now) }
+    ensures refused { IfErr result (IsWayRefusal search.now.automaton.now asked.now.automaton.now
+        asked.now.controlled.now) }
 {
     let state = met.state_at(at);
     let numbers = search.leaving.of_state(search.automaton, state);
     enter_all(alloc, search, met, at, numbers)?;
-    let places = search.leaving.places.as_slice();
-    let out = flagged(alloc, numbers, ways_out)?;
+    let others = asked.leaving.of_state(asked.automaton, state);
+    let out = flagged(alloc, others, ways_out)?;
+    let places = asked.leaving.places.as_slice();
     let number = blocking_edge(
         alloc,
-        search.automaton,
+        asked.automaton,
         places,
         out.as_slice(),
-        search.controlled,
+        asked.controlled,
     )?;
     Ok(number)
 }
@@ -185,15 +204,17 @@ fn blocking_edge(
 fn with_stem(
     alloc: Global,
     automaton: &Automaton,
+    _other: &Automaton,
     _controlled: &[u32],
     _ways_out: &[bool],
     met: &MetStates,
     blocked: Option<Blocked>,
 ) -> Result<Option<StateWithoutLetter>, Refusal>
     requires met { IsMetOf automaton.now met.now }
-    requires blocked { IsBlockedAmong automaton.now _controlled.now (flag _ways_out.now)
+    requires blocked { IsBlockedAmong automaton.now _other.now _controlled.now (flag _ways_out.now)
         met.now.states.keys blocked }
-    ensures found { IfOk result (IsStateFound automaton.now _controlled.now (flag _ways_out.now)) }
+    ensures found { IfOk result
+        (IsStateFound automaton.now _other.now _controlled.now (flag _ways_out.now)) }
     ensures memory { IsOkUnless result Refusal.Memory }
 {
     match blocked {

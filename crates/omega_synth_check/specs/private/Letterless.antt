@@ -1,12 +1,12 @@
 -- The product of a specification with the complement of a counter-strategy: its ways out, and what a search of it
 -- shows.
-use Rattle.std.specs.Prelude.{◌≡◌, ℕ, ◌==◌, ◌&&◌, Bool, false, not, List, get_or, map}
-use Rattle.std.specs.Prelude.{Option, None, Some, slice_index_or}
+use Rattle.std.specs.Prelude.{◌≡◌, ℕ, Bool, false, List, get_or, map, Option, None, Some}
 use Rattle.omega_hoa_automaton.specs.Automaton.{BodyEdge, Description, IsAutomaton, edge_at}
 use Rattle.omega_hoa_automaton.specs.Branching.{has_universal_branching}
 use Rattle.omega_lang_complement.specs.Complement.{HasComplement, IsComplement}
 use Rattle.omega_lang_product.specs.declared.graph.PairGraph.{PairGraph}
 use Rattle.omega_synth_check.specs.CounterJudging.{FollowsAll, IsLetterless}
+use Rattle.omega_synth_check.specs.WaysOut.{is_way_out}
 use Rattle.omega_synth_check.specs.declared.counter_judgement.LetterlessPair.{LetterlessPair}
 
 -- the state that an edge leaves, 0 without an edge
@@ -17,16 +17,6 @@ source_in (Some edge) = edge.source.number
 -- the state that the edge with a number leaves
 abbrev pub source_of : Description → ℕ → ℕ
 source_of a number = source_in (edge_at a number)
-
--- whether an edge enters the sink from another state
-abbrev pub enters_sink : (sink : ℕ) → Option BodyEdge → Bool
-enters_sink sink None = false
-enters_sink sink (Some edge) =
-    (slice_index_or edge.edge.targets 0 0 == sink) && not (edge.source.number == sink)
-
--- whether the edge of a complement with a number enters the sink, the state with this number, from another state
-abbrev pub is_way_out : (complement : Description) → (sink : ℕ) → ℕ → Bool
-is_way_out complement sink number = enters_sink sink (edge_at complement number)
 
 -- the flags say of each edge of the graph whether it takes an edge of the complement that is a way out
 abbrev pub AreWaysOut : (complement : Description) → (sink : ℕ) → PairGraph → List Bool → Type 0

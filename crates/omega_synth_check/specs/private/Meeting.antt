@@ -3,7 +3,7 @@ use Rattle.std.specs.Prelude.{◌≡◌, ℕ, ◌<◌, List, ◌++◌, Contains,
 use Rattle.std.specs.Prelude.{None, Some, length, nat_eq, slice_index_or}
 use Rattle.std.specs.List.{IsDistinct}
 use Rattle.omega_hoa_automaton.specs.Automaton.{Description}
-use Rattle.omega_lang_runs.specs.Lasso.{IsStart, IsStep, Leads}
+use Rattle.omega_lang_runs.specs.Lasso.{IsStart, IsStep}
 use Rattle.omega_synth_check.specs.declared.meeting.StateEntry.{StateEntry}
 use Rattle.omega_synth_check.specs.declared.meeting.MetStates.{MetStates}
 
@@ -49,7 +49,3 @@ HasEntered a state numbers states =
 -- what each edge enters from a state is met
 abbrev pub HasNext : Description → ℕ → List ℕ → Type 0
 HasNext a state states = (number next : ℕ) → IsStep a state number next → Contains states next
-
--- the numbers of edges lead to a state from a start
-abbrev pub IsStemTo : Description → ℕ → List ℕ → Type 0
-IsStemTo a state stem = (start : ℕ) × IsStart a start × Leads a start stem state

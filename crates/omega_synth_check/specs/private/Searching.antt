@@ -1,16 +1,12 @@
 -- A search of an automaton for a letter of the environment that a state that is reached does not answer.
-use Rattle.std.specs.Prelude.{◌≡◌, ◌⊎◌, ℕ, ◌<◌, Bool, true, false, List, Contains, Option, None, Some, length}
-use Rattle.omega_text.specs.Cases.{never, or_task}
-use Rattle.omega_text.specs.declared.refusal.Refusal.{Refusal}
-use Rattle.omega_text.specs.declared.refusal.task.TaskFault.{TaskFault}
-use Rattle.omega_text.specs.declared.refusal.task.TaskFault.TheVariants.{NotParity, UniversalBranch}
+use Rattle.std.specs.Prelude.{◌≡◌, ℕ, ◌<◌, Bool, false, List, Contains, Option, None, Some, length}
 use Rattle.omega_hoa_automaton.specs.Automaton.{Description, IsAutomaton}
 use Rattle.omega_hoa_automaton.specs.Branching.{has_universal_branching}
 use Rattle.omega_synth_controllers.specs.Controllers.{Answers}
 use Rattle.omega_synth_game.specs.RoundsOf.{holds_in}
-use Rattle.omega_synth_check.specs.Judging.{IsAnswered, IsLack, IsReached}
-use Rattle.omega_synth_check.specs.Refusing.{AcceptsAll, HasManyStates, IsHardEdge, MentionsFew}
-use Rattle.omega_synth_check.specs.declared.judgement.Lack.{Lack}
+use Rattle.omega_synth_check.specs.Judging.{IsAnswered}
+use Rattle.omega_synth_check.specs.Lacks.{AreReachedSettled, IsSettled}
+use Rattle.omega_synth_check.specs.Refusing.{IsHardEdge}
 use Rattle.omega_synth_check.specs.declared.searching.Lacking.{Lacking}
 use Rattle.omega_synth_check.specs.declared.search.ControllerSearch.{ControllerSearch}
 use Rattle.omega_synth_check.specs.private.Leaving.{IsLeavingOf}
@@ -32,24 +28,11 @@ abbrev pub SomeAnswers : Description → (controlled numbers : List ℕ) → (�
 SomeAnswers a controlled numbers given =
     (number : ℕ) × Contains numbers number × Answers a controlled number given
 
--- a state answers each letter
-abbrev pub AnswersEach : Description → List ℕ → ℕ → Type 0
-AnswersEach a controlled state = (given : ℕ → Bool) → IsAnswered a controlled state given
-
--- so it does, and its labels mention few of the environment's propositions
-abbrev pub IsSettled : Description → List ℕ → ℕ → Type 0
-IsSettled a controlled state = AnswersEach a controlled state × MentionsFew a controlled state
-
 -- the state at a place does not answer the letter
 abbrev pub IsLackingIn : Description → (controlled states : List ℕ) → Lacking → Type 0
 IsLackingIn a controlled states lacking =
     (lacking.place < length states)
     × ¬ IsAnswered a controlled (state_at states lacking.place) (holds_in lacking.letter)
-
--- the states that are reached are not too many, and each is settled
-abbrev pub AreReachedSettled : Description → List ℕ → Type 0
-AreReachedSettled a controlled = (HasManyStates a → ⊥)
-    × ((state : ℕ) → IsReached a state → IsSettled a controlled state)
 
 -- what a state that was visited lacks: a letter that it does not answer, or nothing
 abbrev pub IsVisited : Description → List ℕ → ℕ → Option (List ℕ) → Type 0
@@ -60,21 +43,6 @@ IsVisited a controlled state (Some letter) = ¬ IsAnswered a controlled state (h
 abbrev pub IsSearched : Description → (controlled states : List ℕ) → Option Lacking → Type 0
 IsSearched a controlled states None = AreReachedSettled a controlled
 IsSearched a controlled states (Some lacking) = IsLackingIn a controlled states lacking
-
--- a lack is one, or each state that is reached answers each letter
-abbrev pub IsLackOf : Description → List ℕ → Option Lack → Type 0
-IsLackOf a controlled None = AreReachedSettled a controlled
-IsLackOf a controlled (Some lack) = IsLack a controlled lack
-
--- the fault of an automaton that cannot be read as a controller
-abbrev pub IsFormFault : Description → TaskFault → Type 0
-IsFormFault controller fault =
-    ((fault ≡ UniversalBranch) × (has_universal_branching controller ≡ true))
-    ⊎ ((fault ≡ NotParity) × (has_universal_branching controller ≡ false) × ¬ AcceptsAll controller)
-
--- its refusal
-abbrev pub IsFormRefusal : Description → Refusal → Type 0
-IsFormRefusal controller = or_task (IsFormFault controller) never
 
 -- one of these edges may be given up undecided
 abbrev pub HaveHardEdge : Description → List ℕ → Type 0

@@ -1,7 +1,7 @@
 -- there is a start, each letter is answered, and the words are accepted
 use Rattle.std.proofs.Common.{◌<◌, length, ap, subst, arith}
 use Rattle.omega_lang_inclusion.specs.Containing.{IsContainment}
-use Rattle.omega_synth_check.specs.private.Searching.{AreReachedSettled, IsLackOf}
+use Rattle.omega_synth_check.specs.Lacks.{AreReachedSettled, IsLackOf}
 use Rattle.omega_synth_controllers.proofs.Starts.{first_start}
 use Rattle.omega_synth_check.proofs.judging.judgement_of.Goals as goal
 

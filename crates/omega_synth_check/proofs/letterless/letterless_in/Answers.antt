@@ -5,10 +5,16 @@ use Rattle.omega_synth_check.specs.CounterRefusing.{not_searched, system_numbers
 use Rattle.omega_synth_check.specs.private.Letterless.{AreWaysOut}
 use Rattle.omega_synth_check.proofs.Lacking.{none_shown, pair_shown, plain_both}
 use Rattle.omega_synth_check.proofs.Refusals.{letters_refused}
+use Rattle.omega_synth_check.proofs.WayRefusals.{way_letter_refused}
 use Rattle.omega_synth_check.proofs.letterless.letterless_in.Goals as goal
 
-pub state_without_letter-requires : goal.state_without_letter-requires
-state_without_letter-requires c =
+pub state_without_letter-requires-clause-plain : goal.state_without_letter-requires-clause-plain
+state_without_letter-requires-clause-plain c =
+    plain_both c.args.specification.now c.args.strategy.now c.args.rest.now c.args.joint.now c.args.graph.now c.requires.beside c.requires.unbranched
+    c.requires.product c.keeps_limits.ensures c.requires.graph
+
+pub state_without_letter-requires-clause-other : goal.state_without_letter-requires-clause-other
+state_without_letter-requires-clause-other c =
     plain_both c.args.specification.now c.args.strategy.now c.args.rest.now c.args.joint.now c.args.graph.now c.requires.beside c.requires.unbranched
     c.requires.product c.keeps_limits.ensures c.requires.graph
 
@@ -18,7 +24,7 @@ returns-in_err-found-clause-refused c =
     (not_searched c.args.joint.now c.requires.product
     (letters_refused c.args.joint.now _ _
     (c.as_slice.ensures.value ∙ c.in_ok-system.ensures.numbers ∙ ap (λ (names : List (List ℕ)). system_numbers names c.args.controlled.now) c.propositions.ensures)
-    _ c.in_err-found.ensures.refused))
+    _ (way_letter_refused c.args.joint.now _ _ c.in_err-found.ensures.refused)))
 
 pub returns-in-None-clause-found : goal.returns-in-None-clause-found
 returns-in-None-clause-found c =

@@ -4,7 +4,8 @@ use Rattle.omega_hoa_edges.specs.Limits.{most_states}
 use Rattle.omega_synth_game.specs.RoundsOf.{holds_in}
 use Rattle.omega_synth_check.specs.Judging.{IsAnswered}
 use Rattle.omega_synth_check.specs.private.Meeting.{state_at}
-use Rattle.omega_synth_check.specs.private.Searching.{IsSettled, IsVisited}
+use Rattle.omega_synth_check.specs.Lacks.{IsSettled}
+use Rattle.omega_synth_check.specs.private.Searching.{IsVisited}
 use Rattle.omega_synth_check.proofs.MetStates.{longer, state_kept}
 use Rattle.omega_synth_check.proofs.Searches.{all_settled, next_more, settled_more, starts_kept, too_many}
 use Rattle.omega_synth_check.proofs.searching.first_lacking.Goals as goal

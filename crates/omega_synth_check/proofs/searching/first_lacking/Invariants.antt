@@ -2,7 +2,7 @@
 use Rattle.std.proofs.Common.{ℕ, ◌-◌, ◌<◌, ◌≤◌}
 use Rattle.omega_hoa_edges.specs.Limits.{most_states}
 use Rattle.omega_synth_check.specs.private.Meeting.{HasNext, HasStarts, IsMetOf, state_at}
-use Rattle.omega_synth_check.specs.private.Searching.{IsSettled}
+use Rattle.omega_synth_check.specs.Lacks.{IsSettled}
 use Rattle.omega_synth_check.proofs.searching.first_lacking.Given as goal
 
 abbrev pub invariant-loop-at : goal.invariant-loop-at

@@ -8,10 +8,11 @@ use Rattle.omega_lang_word_laws.proofs.meeting.Lists.{filter_contains}
 use Rattle.omega_synth_game.specs.Making.{AllLeave}
 use Rattle.omega_synth_check.specs.private.Meeting.{state_at}
 use Rattle.omega_synth_check.specs.private.Searching.{SomeAnswers}
-use Rattle.omega_synth_check.specs.private.WaysOut.{IsSpared, IsVisitedFor, flag}
+use Rattle.omega_synth_check.specs.private.Blocked.{IsSpared, IsVisitedFor}
+use Rattle.omega_synth_check.specs.WaysOut.{flag}
 use Rattle.omega_synth_check.proofs.Leavers.{has_place}
 use Rattle.omega_synth_check.proofs.Reached.{met_reached}
-use Rattle.omega_synth_check.proofs.Refusals.{hard_refused, unasked_refused}
+use Rattle.omega_synth_check.proofs.WayRefusals.{hard_way_refused, unasked_way_refused}
 use Rattle.omega_synth_check.proofs.Steps.{step_leaves}
 use Rattle.omega_synth_check.proofs.WaysOut.{flagged_leave, visited_for}
 use Rattle.omega_synth_check.proofs.without_letter.way_out_at.Goals as goal
@@ -24,15 +25,15 @@ enter_all-requires-clause-leave c =
 
 pub blocking_edge-requires-clause-out : goal.blocking_edge-requires-clause-out
 blocking_edge-requires-clause-out c =
-    let a = c.args.search.now.automaton.now in
+    let b = c.args.asked.now.automaton.now in
     λ k d below.
     (let number : ℕ = get_or c.as_slice.result.now k d in
     let has : Contains c.as_slice.result.now number = Contains-get_or c.as_slice.result.now k d below in
     omega (
       arith,
-      has_place a c.args.search.now.leaving.now c.requires.search.leaving c.state_at-state.result number
-          ((c.of_state-numbers.ensures number).0
-          (filter_contains (flag c.args.ways_out.now) c.of_state-numbers.result.now number
+      has_place b c.args.asked.now.leaving.now c.requires.asked.leaving c.state_at-state.result number
+          ((c.of_state-others.ensures number).0
+          (filter_contains (flag c.args.ways_out.now) c.of_state-others.result.now number
           (subst (λ (list : List ℕ). Contains list number) (c.as_slice.ensures.value ∙ c.in_ok-out.ensures.numbers) has)).0),
       ap length c.as_slice-places.ensures.value,
     ))
@@ -40,7 +41,8 @@ blocking_edge-requires-clause-out c =
 pub returns-in_err-enter_all-clause-refused : goal.returns-in_err-enter_all-clause-refused
 returns-in_err-enter_all-clause-refused c =
     passed_on c.from_residual.result _ _ c.from_residual.ensures.1
-    (hard_refused c.args.search.now.automaton.now c.args.search.now.controlled.now (state_at c.args.met.now.states.keys c.args.at) c.of_state-numbers.result.now
+    (hard_way_refused c.args.search.now.automaton.now c.args.asked.now.automaton.now c.args.asked.now.controlled.now
+    (state_at c.args.met.now.states.keys c.args.at) c.of_state-numbers.result.now
     (met_reached c.args.search.now.automaton.now c.args.met.now.states.keys c.args.met.now.entries.items c.requires.met c.args.at c.requires.at)
     (subst (λ (s : ℕ). AllLeave c.args.search.now.automaton.now s c.of_state-numbers.result.now) c.state_at-state.ensures
     (λ number has. (c.of_state-numbers.ensures number).0 has))
@@ -49,12 +51,13 @@ returns-in_err-enter_all-clause-refused c =
 pub returns-in_err-number-clause-refused : goal.returns-in_err-number-clause-refused
 returns-in_err-number-clause-refused c =
     let a = c.args.search.now.automaton.now in
+    let b = c.args.asked.now.automaton.now in
     passed_on c.from_residual-in_err-number.result _ _ c.from_residual-in_err-number.ensures.1
-    (unasked_refused a c.args.search.now.controlled.now (state_at c.args.met.now.states.keys c.args.at) c.as_slice.result.now
+    (unasked_way_refused a b c.args.asked.now.controlled.now (state_at c.args.met.now.states.keys c.args.at) c.as_slice.result.now
     (met_reached a c.args.met.now.states.keys c.args.met.now.entries.items c.requires.met c.args.at c.requires.at)
-    (subst (λ (s : ℕ). AllLeave a s c.as_slice.result.now) c.state_at-state.ensures
-    (subst (AllLeave a c.state_at-state.result) (sym (c.as_slice.ensures.value ∙ c.in_ok-out.ensures.numbers))
-    (flagged_leave a c.args.search.now.controlled.now (flag c.args.ways_out.now) c.state_at-state.result c.of_state-numbers.result.now c.of_state-numbers.ensures)))
+    (subst (λ (s : ℕ). AllLeave b s c.as_slice.result.now) c.state_at-state.ensures
+    (subst (AllLeave b c.state_at-state.result) (sym (c.as_slice.ensures.value ∙ c.in_ok-out.ensures.numbers))
+    (flagged_leave b c.args.asked.now.controlled.now (flag c.args.ways_out.now) c.state_at-state.result c.of_state-others.result.now c.of_state-others.ensures)))
     _ c.in_err-number.ensures.refused)
 
 pub returns-clause-next : goal.returns-clause-next
@@ -68,16 +71,16 @@ returns-clause-next c =
 
 pub returns-clause-way : goal.returns-clause-way
 returns-clause-way c =
-    let a = c.args.search.now.automaton.now in
-    let controlled : List ℕ = c.args.search.now.controlled.now in
+    let b = c.args.asked.now.automaton.now in
+    let controlled : List ℕ = c.args.asked.now.controlled.now in
     let out : ℕ → Bool = flag c.args.ways_out.now in
-    let numbers : List ℕ = c.of_state-numbers.result.now in
-    let ways : List ℕ = filter out numbers in
+    let others : List ℕ = c.of_state-others.result.now in
+    let ways : List ℕ = filter out others in
     let same : c.as_slice.result.now ≡ ways = c.as_slice.ensures.value ∙ c.in_ok-out.ensures.numbers in
-    subst (λ (s : ℕ). IsVisitedFor a controlled out s c.in_ok-number.number) c.state_at-state.ensures
-    (visited_for a controlled out c.state_at-state.result numbers c.of_state-numbers.ensures c.in_ok-number.number
-    (λ is. subst (IsSpared a controlled) same (subst (λ (found : Option ℕ). IfNone found (IsSpared a controlled c.as_slice.result.now)) is c.in_ok-number.ensures.spared))
+    subst (λ (s : ℕ). IsVisitedFor b controlled out s c.in_ok-number.number) c.state_at-state.ensures
+    (visited_for b controlled out c.state_at-state.result others c.of_state-others.ensures c.in_ok-number.number
+    (λ is. subst (IsSpared b controlled) same (subst (λ (found : Option ℕ). IfNone found (IsSpared b controlled c.as_slice.result.now)) is c.in_ok-number.ensures.spared))
     (λ number is. subst (λ (list : List ℕ). Contains list number) same
     (subst (λ (found : Option ℕ). IfSome found (Contains c.as_slice.result.now)) is c.in_ok-number.ensures.first))
-    (λ number is given. subst (λ (list : List ℕ). SomeAnswers a controlled list given) same
-    (subst (λ (found : Option ℕ). IfSome found (λ number. (given : ℕ → Bool) → SomeAnswers a controlled c.as_slice.result.now given)) is c.in_ok-number.ensures.each given)))
+    (λ number is given. subst (λ (list : List ℕ). SomeAnswers b controlled list given) same
+    (subst (λ (found : Option ℕ). IfSome found (λ number. (given : ℕ → Bool) → SomeAnswers b controlled c.as_slice.result.now given)) is c.in_ok-number.ensures.each given)))
