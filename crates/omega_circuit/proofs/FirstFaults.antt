@@ -3,22 +3,22 @@ use Rattle.std.proofs.Common.{◌≡◌, ◌⊎◌, inl, inr, ℕ, ◌+◌, ◌*
 use Rattle.std.proofs.lemmas.Bool.{cases_lt}
 use Rattle.std.proofs.lemmas.List.{get_or_default}
 use Rattle.omega_circuit.specs.Circuit.{CircuitValue, IsCircuit, defined_variables}
-use Rattle.omega_circuit.specs.FaultNumbers.{circuit_fault_number}
+use Rattle.omega_text.specs.Refusal.{circuit_number}
 use Rattle.omega_circuit.specs.Faults.{AreInRange, HasRoom, IsFirstFault, IsWithout, value_of}
 use Rattle.omega_circuit.specs.Laws.{PartsAreJudged}
 use Rattle.omega_circuit.specs.Limits.{most_variables}
 use Rattle.omega_circuit.specs.private.Numbers.{gate_at}
-use Rattle.omega_circuit.specs.declared.fault.CircuitFault.{CircuitFault}
-use Rattle.omega_circuit.specs.declared.fault.CircuitFault.TheVariants.{Cycle, Defined, LiteralRange, Properties, Reset, Symbol, Undefined, Variables}
+use Rattle.omega_text.specs.declared.refusal.circuit.CircuitFault.{CircuitFault}
+use Rattle.omega_text.specs.declared.refusal.circuit.CircuitFault.TheVariants.{Cycle, Defined, LiteralRange, Name, Properties, Reset, Symbol, Undefined, Variables}
 use Rattle.omega_circuit.specs.declared.parts.CircuitParts.{CircuitParts}
 use Rattle.omega_circuit.proofs.Definitions.{Defines, defines, gate_variable, input_at, latch_at, latch_variable, of_false, of_gate, of_input, of_latch, variable_at, variables_long}
 
 -- the fault of a number
 fault_of : ℕ → CircuitFault
 fault_of n = cond (n == 70) Variables (cond (n == 71) LiteralRange (cond (n == 72) Defined (cond (n == 73) Undefined
-    (cond (n == 74) Cycle (cond (n == 75) Reset (cond (n == 76) Symbol Properties))))))
+    (cond (n == 74) Cycle (cond (n == 75) Reset (cond (n == 76) Symbol (cond (n == 77) Properties Name)))))))
 
-fault_back : (fault : CircuitFault) → fault_of (circuit_fault_number fault) ≡ fault
+fault_back : (fault : CircuitFault) → fault_of (circuit_number fault) ≡ fault
 unfolding fault_of
 fault_back Variables = refl
 fault_back LiteralRange = refl
@@ -28,14 +28,15 @@ fault_back Cycle = refl
 fault_back Reset = refl
 fault_back Symbol = refl
 fault_back Properties = refl
+fault_back Name = refl
 
 -- numbers tell faults apart
-pub same_fault : (fault other : CircuitFault) → circuit_fault_number fault ≡ circuit_fault_number other → fault ≡ other
+pub same_fault : (fault other : CircuitFault) → circuit_number fault ≡ circuit_number other → fault ≡ other
 same_fault fault other same = sym (fault_back fault) ∙ ap fault_of same ∙ fault_back other
 
 -- parts have no fault of a number below this
 abbrev pub HasNoneBelow : CircuitParts → ℕ → Type 0
-HasNoneBelow parts n = (other : CircuitFault) → circuit_fault_number other < n → IsWithout other parts
+HasNoneBelow parts n = (other : CircuitFault) → circuit_number other < n → IsWithout other parts
 
 pub none_yet : (parts : CircuitParts) → HasNoneBelow parts 70
 none_yet parts Variables less = absurd (omega (arith, less))
@@ -46,12 +47,13 @@ none_yet parts Cycle less = absurd (omega (arith, less))
 none_yet parts Reset less = absurd (omega (arith, less))
 none_yet parts Symbol less = absurd (omega (arith, less))
 none_yet parts Properties less = absurd (omega (arith, less))
+none_yet parts Name less = absurd (omega (arith, less))
 
 -- one fault more is not there
-pub one_more : (parts : CircuitParts) (fault : CircuitFault) (n : ℕ) → circuit_fault_number fault ≡ n → HasNoneBelow parts n → IsWithout fault parts → HasNoneBelow parts (n + 1)
-one_more parts fault n is none without other less = go (cases_lt (circuit_fault_number other) n)
+pub one_more : (parts : CircuitParts) (fault : CircuitFault) (n : ℕ) → circuit_number fault ≡ n → HasNoneBelow parts n → IsWithout fault parts → HasNoneBelow parts (n + 1)
+one_more parts fault n is none without other less = go (cases_lt (circuit_number other) n)
   where
-    go : (circuit_fault_number other < n) ⊎ (n ≤ circuit_fault_number other) → IsWithout other parts
+    go : (circuit_number other < n) ⊎ (n ≤ circuit_number other) → IsWithout other parts
     go (inl before) = none other before
     go (inr past) = subst (λ f. IsWithout f parts) (same_fault fault other (omega (arith, is, less, past))) without
 
@@ -65,6 +67,7 @@ none_at_all parts none Cycle = none Cycle (omega arith)
 none_at_all parts none Reset = none Reset (omega arith)
 none_at_all parts none Symbol = none Symbol (omega arith)
 none_at_all parts none Properties = none Properties (omega arith)
+none_at_all parts none Name = tt
 
 -- the first four faults are not there
 pub none_of_four : (parts : CircuitParts) → IsWithout Variables parts → IsWithout LiteralRange parts → IsWithout Defined parts → IsWithout Undefined parts → HasNoneBelow parts 74
@@ -102,19 +105,19 @@ faultless_is_circuit parts none = record {
 
 pub judged : (parts : CircuitParts) → PartsAreJudged parts
 judged parts = record {
-  one = λ fault other is also. one fault other is also (cases_lt (circuit_fault_number fault) (circuit_fault_number other));
+  one = λ fault other is also. one fault other is also (cases_lt (circuit_number fault) (circuit_number other));
   apart = λ fault c is made. is.has (made.faultless fault);
   circuit = λ c made. subst IsCircuit (sym made.same) (faultless_is_circuit parts made.faultless);
 }
   where
-    not_before : (fault other : CircuitFault) → IsFirstFault parts fault → IsFirstFault parts other → (circuit_fault_number other < circuit_fault_number fault) ⊎ (circuit_fault_number fault ≤ circuit_fault_number other)
-        → circuit_fault_number fault ≤ circuit_fault_number other
+    not_before : (fault other : CircuitFault) → IsFirstFault parts fault → IsFirstFault parts other → (circuit_number other < circuit_number fault) ⊎ (circuit_number fault ≤ circuit_number other)
+        → circuit_number fault ≤ circuit_number other
     not_before fault other is also (inl before) = absurd (also.has (is.before other before))
     not_before fault other is also (inr past) = past
 
-    one : (fault other : CircuitFault) → IsFirstFault parts fault → IsFirstFault parts other → (circuit_fault_number fault < circuit_fault_number other) ⊎ (circuit_fault_number other ≤ circuit_fault_number fault)
+    one : (fault other : CircuitFault) → IsFirstFault parts fault → IsFirstFault parts other → (circuit_number fault < circuit_number other) ⊎ (circuit_number other ≤ circuit_number fault)
         → fault ≡ other
     one fault other is also (inl before) = absurd (is.has (also.before fault before))
     one fault other is also (inr past) =
-        let other_way = not_before fault other is also (cases_lt (circuit_fault_number other) (circuit_fault_number fault)) in
+        let other_way = not_before fault other is also (cases_lt (circuit_number other) (circuit_number fault)) in
         same_fault fault other (omega (arith, past, other_way))

@@ -14,3 +14,5 @@ pub mod FirstFaults
 pub mod Uses
 pub mod Ordered
 pub mod Evaluating
+pub mod Reading
+pub mod Rows

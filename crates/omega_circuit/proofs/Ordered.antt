@@ -4,7 +4,7 @@ use Rattle.omega_circuit.specs.Circuit.{AreDefinitions, defined_literals, define
 use Rattle.omega_circuit.specs.Faults.{AreInRange, AreUsesDefined, HasRoom, value_of}
 use Rattle.omega_circuit.specs.private.Numbers.{AreNets, first_gate}
 use Rattle.omega_circuit.specs.private.Orders.{IsWholeOrder}
-use Rattle.omega_circuit.specs.declared.fault.CircuitFault.TheVariants.{Cycle}
+use Rattle.omega_text.specs.declared.refusal.circuit.CircuitFault.TheVariants.{Cycle}
 use Rattle.omega_circuit.specs.declared.gate.Gate.{Gate}
 use Rattle.omega_circuit.specs.declared.parts.CircuitParts.{CircuitParts}
 use Rattle.omega_circuit.proofs.FirstFaults.{HasNoneBelow, none_of_four, one_more}

@@ -2,17 +2,17 @@
 use Rattle.std.specs.Prelude.{◌≡◌, ◌<◌, ◌≤◌, ◌+◌, ◌*◌, ℕ, true, [], All, length}
 use Rattle.omega_circuit.specs.Circuit.{AreDefinitions, AreNamed, AreResets, CircuitValue, HasNames}
 use Rattle.omega_circuit.specs.Circuit.{IsAcyclic, IsComplete, IsDefined, defined_literals}
-use Rattle.omega_circuit.specs.FaultNumbers.{circuit_fault_number}
 use Rattle.omega_circuit.specs.Limits.{most_variables}
-use Rattle.omega_circuit.specs.declared.fault.CircuitFault.{CircuitFault}
-use Rattle.omega_circuit.specs.declared.fault.CircuitFault.TheVariants as faults
+use Rattle.omega_text.specs.Cases.{never, or_circuit, or_memory}
+use Rattle.omega_text.specs.Refusal.{circuit_number}
+use Rattle.omega_text.specs.declared.refusal.Refusal.{Refusal}
+use Rattle.omega_text.specs.declared.refusal.circuit.CircuitFault.{CircuitFault}
+use Rattle.omega_text.specs.declared.refusal.circuit.CircuitFault.TheVariants as faults
 use Rattle.omega_circuit.specs.declared.gate.Gate.{Gate}
 use Rattle.omega_circuit.specs.declared.latch.Latch.{Latch}
 use Rattle.omega_circuit.specs.declared.parts.CircuitParts.{CircuitParts}
 use Rattle.omega_circuit.specs.declared.properties.Properties.{Properties}
 use Rattle.omega_circuit.specs.declared.symbol.SymbolKind.TheVariants.{Bad, Constraint, Fairness, Justice}
-use Rattle.omega_circuit.specs.declared.unread.Unread.{Unread}
-use Rattle.omega_circuit.specs.declared.unread.Unread.TheVariants.{Circuit, Memory, Text}
 
 -- the circuit that parts make if they have no fault
 abbrev pub value_of : CircuitParts → CircuitValue
@@ -75,7 +75,7 @@ pub record HasNoProperties (properties : Properties) : Type 0 where
   pub justice : properties.justice_sizes ≡ []
   pub fairness : properties.fairness ≡ []
 
--- what parts without the fault have
+-- what parts without the fault have; which names another format can write is no matter of parts
 abbrev pub IsWithout : CircuitFault → CircuitParts → Type 0
 IsWithout faults.Variables parts = HasRoom parts
 IsWithout faults.LiteralRange parts = AreInRange parts
@@ -85,10 +85,11 @@ IsWithout faults.Cycle parts = IsAcyclic parts.gates
 IsWithout faults.Reset parts = AreResets parts.latches
 IsWithout faults.Symbol parts = AreSymbols parts
 IsWithout faults.Properties parts = HasNoProperties parts.properties
+IsWithout faults.Name parts = Unit {0}
 
 -- parts have the fault, and none with a lesser number
 pub record IsFirstFault (parts : CircuitParts) (fault : CircuitFault) : Type 0 where
-  pub before : (other : CircuitFault) → circuit_fault_number other < circuit_fault_number fault
+  pub before : (other : CircuitFault) → circuit_number other < circuit_number fault
       → IsWithout other parts
   pub has : IsWithout fault parts → ⊥
 
@@ -97,8 +98,6 @@ pub record IsCircuitOf (parts : CircuitParts) (c : CircuitValue) : Type 0 where
   pub faultless : (fault : CircuitFault) → IsWithout fault parts
   pub same : c ≡ value_of parts
 
--- the error of a call that makes a circuit of parts: their first fault, or want of memory
-abbrev pub IsUnreadOf : CircuitParts → Unread → Type 0
-IsUnreadOf parts (Text fault) = ⊥
-IsUnreadOf parts (Circuit fault) = IsFirstFault parts fault
-IsUnreadOf parts Memory = Unit {0}
+-- the refusals of a call that makes a circuit of parts: their first fault, or `Memory`
+abbrev pub IsCircuitRefusal : CircuitParts → Refusal → Type 0
+IsCircuitRefusal parts = or_memory (or_circuit (IsFirstFault parts) never)

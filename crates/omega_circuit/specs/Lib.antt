@@ -2,7 +2,6 @@
 pub use Rattle.omega_text.specs.NamedWords
 pub mod Limits
 pub mod Symbols
-pub mod FaultNumbers
 pub mod Circuit
 pub mod Rounds
 pub mod Faults

@@ -60,10 +60,27 @@ pub record IsWordOf (c : CircuitValue) (word : NamedWord) : Type 0 where
   pub outputs : (i k : ℕ) → k < length c.outputs
       → word i (name_of Output k c.symbols) ≡ literal_value (rounds i) (slice_index c.outputs k)
 
--- these are the values of what a circuit defines in a round with these inputs and latches: of false, and of inputs,
--- latches and gates in order
+-- the values of all that a circuit defines: of false, and of inputs, latches and gates in order
+abbrev pub table_of : CircuitValue → (ℕ → Bool) → List Bool
+table_of c held = map held (defined_variables c)
+
+-- these are the values of what a circuit defines in a round with these inputs and latches
 pub record AreValues (c : CircuitValue) (inputs latches values : List Bool) : Type 0 where
   pub held : ℕ → Bool
   pub round : IsRound c held
-  pub by_variable : values ≡ map held (defined_variables c)
+  pub by_variable : values ≡ table_of c held
   pub given : values ≡ false ∷ (inputs ++ (latches ++ map (gate_value held) c.gates))
+
+-- the values of the latches in the first round
+abbrev pub first_latches : CircuitValue → List Bool
+first_latches c = map (λ (latch : Latch). latch.reset == 1) c.latches
+
+-- these are the values of the latches in the round after one with these values
+abbrev pub AreNextLatches : CircuitValue → (values latches : List Bool) → Type 0
+AreNextLatches c values latches = (held : ℕ → Bool) → values ≡ table_of c held
+    → latches ≡ map (λ (latch : Latch). literal_value held latch.next) c.latches
+
+-- these are the values of the outputs in a round with these values
+abbrev pub AreOutputs : CircuitValue → (values outputs : List Bool) → Type 0
+AreOutputs c values outputs = (held : ℕ → Bool) → values ≡ table_of c held
+    → outputs ≡ map (λ literal. literal_value held literal) c.outputs

@@ -2,3 +2,4 @@
 pub mod Numbers
 pub mod Orders
 pub mod Steps
+pub mod Wires

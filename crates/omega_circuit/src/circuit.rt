@@ -1,15 +1,15 @@
 //! A circuit, and how it is made.
 
-ghost use Rattle.std.specs.Prelude.{◌≡◌, ◌==◌, IfErr, IfOk, map};
-ghost use Rattle.omega_circuit.specs.Faults.{IsCircuitOf, IsUnreadOf};
+ghost use Rattle.std.specs.Prelude.{◌≡◌, IfErr, IfOk};
+ghost use Rattle.omega_circuit.specs.Faults.{IsCircuitOf, IsCircuitRefusal};
 
 use crate::gate::Gate;
-use crate::judging::steps_of;
+use crate::judging::ordered_wires;
 use crate::latch::Latch;
 use crate::parts::CircuitParts;
 use crate::symbol::Symbol;
-use crate::unread::Unread;
-use omega_text::Seq;
+use crate::wiring::Wires;
+use omega_text::{Refusal, Seq};
 use std::alloc::{AllocError, Global};
 use std::marker::Model;
 
@@ -21,8 +21,8 @@ pub struct Circuit {
     outputs: Seq<u32>,
     gates: Seq<Gate>,
     symbols: Seq<Symbol>,
-    /// The gates between numbered literals, each after those that it uses.
-    pub(crate) steps: Vec<Gate>,
+    /// The wires, each gate after those that it uses.
+    pub(crate) wires: Wires,
 }
 
 impl Model for Circuit {
@@ -31,23 +31,25 @@ impl Model for Circuit {
     ghost Value = { CircuitValue };
 
     ghost use Rattle.omega_circuit.specs.private.Steps.{AreSteps, circuit_with};
+    ghost use Rattle.omega_circuit.specs.private.Wires.{AreReads};
 
     ghost view = { λ a. circuit_with a.inputs a.latches a.outputs a.gates a.symbols };
 
     ghost invariant = { λ a.
         IsCircuit (circuit_with a.inputs a.latches a.outputs a.gates a.symbols)
-        × AreSteps (circuit_with a.inputs a.latches a.outputs a.gates a.symbols) a.steps.items };
+        × AreSteps (circuit_with a.inputs a.latches a.outputs a.gates a.symbols) a.wires.gates.items
+        × AreReads (circuit_with a.inputs a.latches a.outputs a.gates a.symbols) a.wires.reads };
 }
 
 /// Returns the circuit that `parts` make. Takes expected linear time in the parts, and memory by what they have and not
 /// by their greatest variable.
 ///
-/// Fails with the fault of the least number of those that apply: see [`CircuitFault`](crate::CircuitFault).
-pub fn circuit_of(alloc: Global, parts: CircuitParts) -> Result<Circuit, Unread>
+/// Fails with the fault of the least number of those that apply: see [`CircuitFault`](omega_text::CircuitFault).
+pub fn circuit_of(alloc: Global, parts: CircuitParts) -> Result<Circuit, Refusal>
     ensures ok { IfOk result (IsCircuitOf parts) }
-    ensures err { IfErr result (IsUnreadOf parts) }
+    ensures err { IfErr result (IsCircuitRefusal parts) }
 {
-    let steps = steps_of(alloc, &parts)?;
+    let wires = ordered_wires(alloc, &parts)?;
     let CircuitParts {
         inputs,
         latches,
@@ -62,13 +64,13 @@ pub fn circuit_of(alloc: Global, parts: CircuitParts) -> Result<Circuit, Unread>
         outputs,
         gates,
         symbols,
-        steps,
+        wires,
     })
 }
 
 impl Circuit {
     ghost use Rattle.omega_circuit.specs.Circuit.{IsCircuit};
-    ghost use Rattle.omega_circuit.specs.declared.latch.Latch.{Latch};
+    ghost use Rattle.omega_circuit.specs.Rounds.{first_latches};
 
     /// Returns the literals of the inputs.
     pub fn inputs(&self) -> &[u32]
@@ -107,8 +109,7 @@ impl Circuit {
 
     /// Returns the values of the latches in the first round.
     pub fn first_latches(&self, alloc: Global) -> Result<Vec<bool>, AllocError>
-        ensures { IfOk result (λ values. values.items
-            ≡ map (λ (latch : Latch). latch.reset == 1) self.now.latches) }
+        ensures { IfOk result (λ values. values.items ≡ first_latches self.now) }
     {
         self.latches
             .as_slice()

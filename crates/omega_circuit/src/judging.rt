@@ -1,72 +1,78 @@
 //! The faults of parts, in their order.
 
-ghost use Rattle.std.specs.Prelude.{◌≡◌, ◌↔◌, ◌+◌, ◌<◌, All, IfErr, IfNone, IfOk, IfSome, IsTrue};
+ghost use Rattle.std.specs.Prelude.{◌≡◌, ◌↔◌, ◌<◌, All, IfErr, IfNone, IfOk, IfSome, IsTrue};
 ghost use Rattle.std.specs.Prelude.{length, map};
 ghost use Rattle.omega_circuit.specs.Circuit.{AreDefinitions, defined_literals, defined_variables};
-ghost use Rattle.omega_circuit.specs.Faults.{AreInRange, AreUsesDefined, HasRoom, IsUnreadOf, IsWithout};
-ghost use Rattle.omega_circuit.specs.Faults.{value_of};
-ghost use Rattle.omega_circuit.specs.private.Numbers.{AreNets, first_gate, gate_at};
+ghost use Rattle.omega_circuit.specs.Faults.{AreInRange, AreUsesDefined, HasRoom, IsCircuitRefusal};
+ghost use Rattle.omega_circuit.specs.Faults.{IsWithout, value_of};
+ghost use Rattle.omega_circuit.specs.private.Numbers.{first_gate, gate_at, next_literals};
 ghost use Rattle.omega_circuit.specs.private.Steps.{AreSteps};
-ghost use Rattle.omega_circuit.specs.declared.fault.CircuitFault.{CircuitFault};
+ghost use Rattle.omega_circuit.specs.private.Wires.{AreReads, AreWires};
+ghost use Rattle.omega_text.specs.declared.refusal.circuit.CircuitFault.{CircuitFault};
 
-use crate::fault::CircuitFault;
 use crate::gate::Gate;
 use crate::gate_order::order_of;
+use crate::latch::Latch;
 use crate::limits::MOST_VARIABLES;
-use crate::literals::{are_defined, are_in_range, are_nexts_defined, are_properties_defined};
+use crate::literals::{are_in_range, are_properties_defined};
 use crate::names::{are_resets, are_symbols, has_no_properties};
 use crate::parts::CircuitParts;
-use crate::unread::Unread;
 use crate::variables::{defined_literals, variables_of};
-use crate::wiring::nets_of;
+use crate::wiring::{Reads, Wires, nets_of, numbers_of};
 use indexmap::IndexSet;
+use omega_text::{CircuitFault, Refusal};
 use std::alloc::{AllocError, Global};
 
-/// Returns the steps in which the gates of `parts` are evaluated, if `parts` have no fault.
-pub(crate) fn steps_of(alloc: Global, parts: &CircuitParts) -> Result<Vec<Gate>, Unread>
-    ensures steps { IfOk result (λ steps. AreSteps (value_of parts.now) steps.items) }
-    ensures faultless { IfOk result (λ steps. (fault : CircuitFault) → IsWithout fault parts.now) }
-    ensures fault { IfErr result (IsUnreadOf parts.now) }
+/// Returns the wires of `parts` with the gates in an order in which each comes after those that it uses, if `parts`
+/// have no fault.
+pub(crate) fn ordered_wires(alloc: Global, parts: &CircuitParts) -> Result<Wires, Refusal>
+    ensures steps { IfOk result (λ wires. AreSteps (value_of parts.now) wires.gates.items) }
+    ensures reads { IfOk result (λ wires. AreReads (value_of parts.now) wires.reads) }
+    ensures faultless { IfOk result (λ wires. (fault : CircuitFault) → IsWithout fault parts.now) }
+    ensures fault { IfErr result (IsCircuitRefusal parts.now) }
 {
-    let nets = numbered_gates(alloc, parts)?;
-    let Some(order) = order_of(alloc, first_gate(parts), nets.as_slice())? else {
-        return Err(Unread::Circuit(CircuitFault::Cycle));
+    let wires = defined_wires(alloc, parts)?;
+    let Some(order) = order_of(alloc, first_gate(parts), wires.gates.as_slice())? else {
+        return Err(Refusal::Circuit(CircuitFault::Cycle));
     };
     if !are_resets(parts.latches.as_slice()) {
-        return Err(Unread::Circuit(CircuitFault::Reset));
+        return Err(Refusal::Circuit(CircuitFault::Reset));
     }
     if !are_symbols(alloc, parts)? {
-        return Err(Unread::Circuit(CircuitFault::Symbol));
+        return Err(Refusal::Circuit(CircuitFault::Symbol));
     }
     if !has_no_properties(&parts.properties) {
-        return Err(Unread::Circuit(CircuitFault::Properties));
+        return Err(Refusal::Circuit(CircuitFault::Properties));
     }
-    Ok(gates_along(alloc, nets.as_slice(), order.as_slice())?)
+    let gates = gates_along(alloc, wires.gates.as_slice(), order.as_slice())?;
+    Ok(Wires {
+        gates,
+        reads: wires.reads,
+    })
 }
 
-/// Returns the gates of `parts` between numbered literals, if `parts` have none of the first four faults.
-fn numbered_gates(alloc: Global, parts: &CircuitParts) -> Result<Vec<Gate>, Unread>
-    ensures nets { IfOk result (λ nets. AreNets (defined_variables (value_of parts.now))
-        (first_gate (value_of parts.now)) parts.now.gates nets.items) }
-    ensures room { IfOk result (λ nets. HasRoom parts.now) }
-    ensures range { IfOk result (λ nets. AreInRange parts.now) }
-    ensures definitions { IfOk result (λ nets. AreDefinitions (defined_literals (value_of parts.now))) }
-    ensures uses { IfOk result (λ nets. AreUsesDefined parts.now) }
-    ensures fault { IfErr result (IsUnreadOf parts.now) }
+/// Returns the wires of `parts`, if `parts` have none of the first four faults.
+fn defined_wires(alloc: Global, parts: &CircuitParts) -> Result<Wires, Refusal>
+    ensures wires { IfOk result (λ wires. AreWires (value_of parts.now) wires) }
+    ensures room { IfOk result (λ wires. HasRoom parts.now) }
+    ensures range { IfOk result (λ wires. AreInRange parts.now) }
+    ensures definitions { IfOk result (λ wires. AreDefinitions (defined_literals (value_of parts.now))) }
+    ensures uses { IfOk result (λ wires. AreUsesDefined parts.now) }
+    ensures fault { IfErr result (IsCircuitRefusal parts.now) }
 {
     if !has_room(parts) {
-        return Err(Unread::Circuit(CircuitFault::Variables));
+        return Err(Refusal::Circuit(CircuitFault::Variables));
     }
     if !are_in_range(parts) {
-        return Err(Unread::Circuit(CircuitFault::LiteralRange));
+        return Err(Refusal::Circuit(CircuitFault::LiteralRange));
     }
     let literals = defined_literals(alloc, parts)?;
     let Some(variables) = variables_of(alloc, literals.as_slice())? else {
-        return Err(Unread::Circuit(CircuitFault::Defined));
+        return Err(Refusal::Circuit(CircuitFault::Defined));
     };
-    match defined_gates(alloc, &variables, parts)? {
-        Some(nets) => Ok(nets),
-        None => Err(Unread::Circuit(CircuitFault::Undefined)),
+    match wires_of(alloc, &variables, parts)? {
+        Some(wires) => Ok(wires),
+        None => Err(Refusal::Circuit(CircuitFault::Undefined)),
     }
 }
 
@@ -89,31 +95,59 @@ fn first_gate(parts: &CircuitParts) -> usize
     1 + parts.inputs.len() + parts.latches.len()
 }
 
-/// Returns the gates of `parts` between numbered literals, or `None` if the variable of a literal that is used is not
-/// among `variables`, which are those that `parts` define.
-fn defined_gates(
+/// Returns the wires of `parts`, or `None` if the variable of a literal that is used is not among `variables`, which
+/// are those that `parts` define.
+fn wires_of(
     alloc: Global,
     variables: &IndexSet<u32>,
     parts: &CircuitParts,
-) -> Result<Option<Vec<Gate>>, AllocError>
+) -> Result<Option<Wires>, AllocError>
     requires room { HasRoom parts.now }
     requires variables { variables.now.keys ≡ defined_variables (value_of parts.now) }
-    ensures nets { IfOk result (λ found. IfSome found
-        (λ nets. AreNets (defined_variables (value_of parts.now)) (first_gate (value_of parts.now))
-        parts.now.gates nets.items)) }
-    ensures uses { IfOk result (λ found. IfSome found (λ nets. AreUsesDefined parts.now)) }
+    ensures wires { IfOk result (λ found. IfSome found (AreWires (value_of parts.now))) }
+    ensures uses { IfOk result (λ found. IfSome found (λ wires. AreUsesDefined parts.now)) }
     ensures fault { IfOk result (λ found. IfNone found (AreUsesDefined parts.now → ⊥)) }
 {
-    if !are_nexts_defined(parts.latches.as_slice(), variables) {
+    let Some(reads) = reads_of(alloc, variables, parts)? else {
         return Ok(None);
-    }
-    if !are_defined(parts.outputs.as_slice(), variables) {
-        return Ok(None);
-    }
+    };
     if !are_properties_defined(&parts.properties, variables) {
         return Ok(None);
     }
-    nets_of(alloc, variables, first_gate(parts), parts.gates.as_slice())
+    let nets = nets_of(alloc, variables, first_gate(parts), parts.gates.as_slice())?;
+    let Some(gates) = nets else {
+        return Ok(None);
+    };
+    Ok(Some(Wires { gates, reads }))
+}
+
+/// Returns what is read at the end of a round, or `None` if a variable of it is not among `variables`, which are those
+/// that `parts` define.
+fn reads_of(
+    alloc: Global,
+    variables: &IndexSet<u32>,
+    parts: &CircuitParts,
+) -> Result<Option<Reads>, AllocError>
+    requires room { HasRoom parts.now }
+    requires variables { variables.now.keys ≡ defined_variables (value_of parts.now) }
+    ensures reads { IfOk result (λ found. IfSome found (AreReads (value_of parts.now))) }
+    ensures none { IfOk result (λ found. IfNone found (AreUsesDefined parts.now → ⊥)) }
+{
+    let next_literals = next_literals(alloc, parts.latches.as_slice())?;
+    let Some(nexts) = numbers_of(alloc, variables, next_literals.as_slice())? else {
+        return Ok(None);
+    };
+    let Some(outputs) = numbers_of(alloc, variables, parts.outputs.as_slice())? else {
+        return Ok(None);
+    };
+    Ok(Some(Reads { nexts, outputs }))
+}
+
+/// Returns the next literals of latches.
+fn next_literals(alloc: Global, latches: &[Latch]) -> Result<Vec<u32>, AllocError>
+    ensures { IfOk result (λ literals. literals.items ≡ next_literals latches.now) }
+{
+    latches.iter().map(|latch| latch.next).collect(alloc)
 }
 
 /// Returns the gates of `nets` in this order.

@@ -6,7 +6,6 @@
 #![tactic(auto)]
 
 mod circuit;
-mod fault;
 mod gate;
 mod gate_order;
 mod judging;
@@ -21,16 +20,13 @@ mod round;
 mod symbol;
 #[cfg(test)]
 mod tests;
-mod unread;
 mod variables;
 mod wiring;
 
 pub use circuit::{Circuit, circuit_of};
-pub use fault::CircuitFault;
 pub use gate::Gate;
 pub use latch::Latch;
 pub use limits::MOST_VARIABLES;
 pub use parts::CircuitParts;
 pub use properties::Properties;
 pub use symbol::{Symbol, SymbolKind};
-pub use unread::Unread;

@@ -62,25 +62,12 @@ fn are_properties_up_to(properties: &Properties, most: u32) -> bool
 }
 
 /// Whether the variables of all literals are among `variables`.
-pub(crate) fn are_defined(literals: &[u32], variables: &IndexSet<u32>) -> bool
+fn are_defined(literals: &[u32], variables: &IndexSet<u32>) -> bool
     ensures { IsTrue result
         ↔ All (λ literal. Contains variables.now.keys (literal / 2)) literals.now }
 {
     for literal in literals {
         if !is_defined(*literal, variables) {
-            return false;
-        }
-    }
-    true
-}
-
-/// Whether the variables of the next values of latches are among `variables`.
-pub(crate) fn are_nexts_defined(latches: &[Latch], variables: &IndexSet<u32>) -> bool
-    ensures { IsTrue result
-        ↔ All (λ (latch : Latch). Contains variables.now.keys (latch.next / 2)) latches.now }
-{
-    for latch in latches {
-        if !is_defined(latch.next, variables) {
             return false;
         }
     }

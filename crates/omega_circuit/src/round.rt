@@ -1,7 +1,8 @@
 //! One round of a circuit.
 
-ghost use Rattle.std.specs.Prelude.{◌≡◌, ◌<◌, ◌/◌, ◌+◌, ◌∷◌, ◌++◌, false, IfOk, length, replicate};
-ghost use Rattle.omega_circuit.specs.Rounds.{AreValues, literal_value};
+ghost use Rattle.std.specs.Prelude.{◌≡◌, ◌<◌, ◌/◌, ◌+◌, ◌∷◌, ◌++◌, false, All, IfOk, length, map, replicate};
+ghost use Rattle.omega_circuit.specs.Circuit.{defined_variables};
+ghost use Rattle.omega_circuit.specs.Rounds.{AreNextLatches, AreOutputs, AreValues, literal_value};
 ghost use Rattle.omega_circuit.specs.private.Orders.{flag_at};
 ghost use Rattle.omega_circuit.specs.private.Steps.{AreWithin, evaluated};
 
@@ -24,8 +25,39 @@ impl Circuit {
         ensures { IfOk result (λ values. AreValues self.now inputs.now latches.now values.items) }
     {
         let values = given_values(alloc, inputs, latches, self.gates().len())?;
-        Ok(values_after(self.steps.as_slice(), values))
+        Ok(values_after(self.wires.gates.as_slice(), values))
     }
+
+    /// Returns the values of the latches in the round after one with these values, as [`round_of`](Circuit::round_of)
+    /// returns them. Takes linear time in the latches.
+    pub fn next_latches(&self, alloc: Global, values: &[bool]) -> Result<Vec<bool>, AllocError>
+        requires { length values.now ≡ length (defined_variables self.now) }
+        ensures { IfOk result (λ latches. AreNextLatches self.now values.now latches.items) }
+    {
+        values_at(alloc, self.wires.reads.nexts.as_slice(), values)
+    }
+
+    /// Returns the values of the outputs in a round with these values, as [`round_of`](Circuit::round_of) returns them.
+    /// Takes linear time in the outputs.
+    pub fn output_values(&self, alloc: Global, values: &[bool]) -> Result<Vec<bool>, AllocError>
+        requires { length values.now ≡ length (defined_variables self.now) }
+        ensures { IfOk result (λ outputs. AreOutputs self.now values.now outputs.items) }
+    {
+        values_at(alloc, self.wires.reads.outputs.as_slice(), values)
+    }
+}
+
+/// Returns the values of numbered literals.
+fn values_at(alloc: Global, numbers: &[u32], values: &[bool]) -> Result<Vec<bool>, AllocError>
+    requires { All (λ number. number / 2 < length values.now) numbers.now }
+    ensures { IfOk result (λ found. found.items
+        ≡ map (λ number. literal_value (flag_at values.now) number) numbers.now) }
+{
+    let mut found = Vec::with_capacity(alloc, numbers.len())?;
+    for number in numbers {
+        found.push(value_in(values, *number))?;
+    }
+    Ok(found)
 }
 
 /// Returns the values after gates were evaluated one after the other.

@@ -1,6 +1,6 @@
 //! Circuits of a few variables: the fault of each, and rounds, worked out by hand.
-use crate::{Circuit, CircuitFault, CircuitParts, Gate, Latch, Properties, Unread, circuit_of};
-use omega_text::Seq;
+use crate::{Circuit, CircuitParts, Gate, Latch, Properties, circuit_of};
+use omega_text::{CircuitFault, Refusal, Seq};
 use std::alloc::{AllocError, Global};
 use std::test::Fail;
 
@@ -184,9 +184,9 @@ fn parts_of(alloc: Global, row: &Row<'_>) -> Result<CircuitParts, AllocError> {
 }
 
 /// Returns the fault of a row, or none if its parts make a circuit.
-fn fault_of(made: Result<Circuit, Unread>) -> Option<CircuitFault> {
+fn fault_of(made: Result<Circuit, Refusal>) -> Option<CircuitFault> {
     match made {
-        Err(Unread::Circuit(fault)) => Some(fault),
+        Err(Refusal::Circuit(fault)) => Some(fault),
         _ => None,
     }
 }

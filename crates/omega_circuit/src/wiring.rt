@@ -1,14 +1,32 @@
 //! Gates between numbered literals: in the place of a variable stands its number among the variables that are defined.
 
-ghost use Rattle.std.specs.Prelude.{◌≤◌, ◌<◌, ◌+◌, ◌/◌, All, IfNone, IfOk, IfSome, length};
+ghost use Rattle.std.specs.Prelude.{◌≤◌, ◌+◌, ◌/◌, All, IfNone, IfOk, IfSome, length};
 ghost use Rattle.std.specs.List.{Contains};
 ghost use Rattle.omega_circuit.specs.Limits.{most_variables};
-ghost use Rattle.omega_circuit.specs.private.Numbers.{AreNets, IsNumbered};
+ghost use Rattle.omega_circuit.specs.private.Numbers.{AreNets, AreNumbered, IsNumbered};
 ghost use Rattle.omega_circuit.specs.declared.gate.Gate.{Gate};
 
 use crate::gate::Gate;
 use indexmap::IndexSet;
 use std::alloc::{AllocError, Global};
+
+/// What a circuit joins, by numbered literals.
+#[derive(Debug, Drop)]
+pub(crate) struct Wires {
+    /// The gates.
+    pub(crate) gates: Vec<Gate>,
+    /// What is read at the end of a round.
+    pub(crate) reads: Reads,
+}
+
+/// The numbered literals that are read at the end of a round.
+#[derive(Debug, Drop)]
+pub(crate) struct Reads {
+    /// The next literals of the latches.
+    pub(crate) nexts: Vec<u32>,
+    /// The outputs.
+    pub(crate) outputs: Vec<u32>,
+}
 
 /// Returns `gates` between numbered literals, their own variables numbered from `first` on, or `None` if an operand has
 /// no variable among `variables`.
@@ -45,6 +63,28 @@ pub(crate) fn nets_of(
         })?;
     }
     Ok(Some(nets))
+}
+
+/// Returns `literals` with the numbers of their variables, or `None` if one of them has no variable among `variables`.
+pub(crate) fn numbers_of(
+    alloc: Global,
+    variables: &IndexSet<u32>,
+    literals: &[u32],
+) -> Result<Option<Vec<u32>>, AllocError>
+    requires { length variables.now.keys ≤ most_variables + 1 }
+    ensures some { IfOk result (λ found. IfSome found
+        (λ numbers. AreNumbered variables.now.keys literals.now numbers.items)) }
+    ensures none { IfOk result (λ found. IfNone found
+        (All (λ literal. Contains variables.now.keys (literal / 2)) literals.now → ⊥)) }
+{
+    let mut numbers = Vec::with_capacity(alloc, literals.len())?;
+    for literal in literals {
+        let Some(number) = number_of(variables, *literal) else {
+            return Ok(None);
+        };
+        numbers.push(number)?;
+    }
+    Ok(Some(numbers))
 }
 
 /// Returns `literal` with the number of its variable among `variables`, or `None` if it is not among them.

@@ -1,7 +1,8 @@
 -- Literals by the numbers of their variables: the places among those that are defined.
-use Rattle.std.specs.Prelude.{◌≡◌, ◌<◌, ◌+◌, ◌*◌, ◌/◌, ◌%◌, ℕ, List, length, slice_index, slice_index_or}
+use Rattle.std.specs.Prelude.{◌≡◌, ◌<◌, ◌+◌, ◌*◌, ◌/◌, ◌%◌, ℕ, List, length, map, slice_index, slice_index_or}
 use Rattle.omega_circuit.specs.Circuit.{CircuitValue}
 use Rattle.omega_circuit.specs.declared.gate.Gate.{Gate}
+use Rattle.omega_circuit.specs.declared.latch.Latch.{Latch}
 
 -- the gate at a place; one of false beyond
 abbrev pub gate_at : List Gate → ℕ → Gate
@@ -16,6 +17,16 @@ pub record IsNumbered (variables : List ℕ) (literal number : ℕ) : Type 0 whe
   pub within : number / 2 < length variables
   pub variable : slice_index variables (number / 2) ≡ literal / 2
   pub sign : number % 2 ≡ literal % 2
+
+-- literals, and the same with the numbers of their variables
+pub record AreNumbered (variables literals numbers : List ℕ) : Type 0 where
+  pub long : length numbers ≡ length literals
+  pub each : (k : ℕ) → k < length literals
+      → IsNumbered variables (slice_index literals k) (slice_index numbers k)
+
+-- the literals whose values latches take
+abbrev pub next_literals : List Latch → List ℕ
+next_literals latches = map (λ (latch : Latch). latch.next) latches
 
 -- a gate, and the same with numbered literals
 pub record IsNet (variables : List ℕ) (own : ℕ) (gate net : Gate) : Type 0 where

@@ -18,8 +18,8 @@ values_after-requires c =
     c.in_ok-values.ensures ∙ ap (λ (n : ℕ). false ∷ (c.args.inputs.now ++ (c.args.latches.now ++ replicate n false)))
     (ap (λ (gates : List Gate). length gates) c.gates.ensures ∙ ap (λ (x : CircuitValue). length x.gates) (sym c.self.view_is)) in
     subst (λ (steps : List Gate). AreWithin (length c.in_ok-values.values.items) steps) (sym c.as_slice.ensures.value)
-    (steps_within v inside.steps.items c.self.invariant.1 (length c.in_ok-values.values.items)
-    (begun_long v c.self.invariant.0 inside.steps.items c.self.invariant.1 c.args.inputs.now c.args.latches.now all_inputs all_latches c.in_ok-values.values.items begun))
+    (steps_within v inside.wires.gates.items c.self.invariant.1 (length c.in_ok-values.values.items)
+    (begun_long v c.self.invariant.0 inside.wires.gates.items c.self.invariant.1 c.args.inputs.now c.args.latches.now all_inputs all_latches c.in_ok-values.values.items begun))
 
 pub returns : goal.returns
 returns c =
@@ -31,6 +31,6 @@ returns c =
     c.in_ok-values.ensures ∙ ap (λ (n : ℕ). false ∷ (c.args.inputs.now ++ (c.args.latches.now ++ replicate n false)))
     (ap (λ (gates : List Gate). length gates) c.gates.ensures ∙ ap (λ (x : CircuitValue). length x.gates) (sym c.self.view_is)) in
     subst (λ (x : CircuitValue). AreValues x c.args.inputs.now c.args.latches.now c.values_after.result.items) c.self.view_is
-    (evaluated_are v c.self.invariant.0 inside.steps.items c.self.invariant.1 c.args.inputs.now c.args.latches.now all_inputs all_latches
+    (evaluated_are v c.self.invariant.0 inside.wires.gates.items c.self.invariant.1 c.args.inputs.now c.args.latches.now all_inputs all_latches
     c.in_ok-values.values.items c.values_after.result.items begun
     (c.values_after.ensures ∙ ap (λ (steps : List Gate). evaluated steps c.in_ok-values.values.items) c.as_slice.ensures.value))
