@@ -1,0 +1,19 @@
+-- Lemmas by what they are about: the front of a text, what reading along a layout makes, and which layouts are proper.
+pub mod Splits
+pub mod Fronts
+pub mod Proper
+pub mod Outcomes
+pub mod Wrong
+pub mod Circuits
+pub mod Texts
+pub mod Steps
+pub mod Loops
+pub mod Digits
+pub mod Values
+pub mod Headers
+pub mod Endings
+pub mod Parts
+pub mod Greatest
+pub mod Spelled
+pub mod Readback
+pub mod Made

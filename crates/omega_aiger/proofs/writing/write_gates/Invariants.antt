@@ -1,0 +1,8 @@
+-- The lines so far.
+use Rattle.std.proofs.Common.{◌≡◌, ◌++◌, take}
+use Rattle.std.specs.List.{flat_map}
+use Rattle.omega_aiger.specs.Written.{gate_text}
+use Rattle.omega_aiger.proofs.writing.write_gates.Given as goal
+
+abbrev pub invariant-loop-gate : goal.invariant-loop-gate
+invariant-loop-gate l = l.out.items ≡ l.initial.out.items ++ flat_map gate_text (take l.gate-index l.gates)

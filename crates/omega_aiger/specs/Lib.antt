@@ -1,0 +1,12 @@
+-- Circuits as texts: what contracts cite.
+pub use Rattle.omega_circuit.specs.Circuit
+pub use Rattle.omega_circuit.specs.Faults
+pub mod Deltas
+pub mod Layout
+pub mod Lines
+pub mod Symbols
+pub mod Forms
+pub mod Text
+pub mod Written
+pub mod Laws
+pub mod private

@@ -1,0 +1,22 @@
+//! Circuits as texts of the AIGER format (Biere 2007; version 1.9: Biere, Heljanko and Wieringa 2011): read in the
+//! ASCII form `aag` and in the binary form `aig`, and written in the ASCII form.
+//!
+//! A text is read byte by byte, and nothing is allocated by a count of the header before the lines are there.
+#![tactic(auto)]
+
+mod ascii;
+mod binary;
+mod delta;
+mod header;
+pub mod laws;
+mod line;
+mod number;
+mod properties;
+mod reading;
+mod symbols;
+#[cfg(test)]
+mod tests;
+mod writing;
+
+pub use reading::read_aiger;
+pub use writing::aag_text;
