@@ -1,0 +1,7 @@
+-- Definitions that no contract of a public function cites.
+pub mod Ternary
+pub mod Cuts
+pub mod Labels
+pub mod Written
+pub mod Automata
+pub mod Quotable

@@ -1,0 +1,26 @@
+//! The automaton of a circuit: it accepts exactly the circuit's words. Its states are the valuations of the latches
+//! that are reached, and an edge answers the letters of the inputs that fit a cube.
+//!
+//! The cubes of a state are found by splitting: all gates are evaluated with some inputs unknown, and one of these is
+//! split while an output or a next value of a latch depends on it.
+#![tactic(auto)]
+
+mod automaton;
+mod budget;
+mod ends;
+mod evaluator;
+mod exploring;
+mod gate_order;
+mod header;
+mod labels;
+mod names;
+mod splitting;
+mod ternary;
+#[cfg(test)]
+mod tests;
+mod valuations;
+
+pub use automaton::circuit_automaton;
+pub use omega_circuit::Circuit;
+pub use omega_hoa_automaton::Automaton;
+pub use omega_text::Refusal;
