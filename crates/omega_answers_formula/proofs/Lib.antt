@@ -1,5 +1,6 @@
 -- Lemmas of the answers about formulas.
 pub mod Alone
+pub mod EqualFormula
 pub mod InTurn
 pub mod Items
 pub mod Strings

@@ -1,10 +1,12 @@
-//! What `ltl` makes of the text of a formula, and what `satisfies` answers to it and to that of an automaton, of a
-//! stream of automata, or of a word.
+//! What `ltl` makes of the text of a formula; what `satisfies` answers to it and to that of an automaton, of a stream
+//! of automata, or of a word; and what `equal` answers to it and to that of an automaton.
 //!
 //! docs/formats.md says when each refusal comes.
 #![tactic(auto)]
 
 mod canonical;
+mod deterministic;
+mod equal;
 mod formula_answers;
 mod formula_question;
 mod in_turn;
@@ -17,6 +19,8 @@ mod satisfies_word;
 mod title;
 
 pub use canonical::canonical_formula;
+pub use deterministic::deterministic_text;
+pub use equal::equal_each;
 pub use formula_answers::FormulaAnswers;
 pub use ltl::ltl_text;
 pub use omega_answers::Exit;

@@ -108,7 +108,7 @@ fn answers_for_automaton(
 }
 
 /// If `names` is set, returns the names of each of `formulas` that no proposition of `automaton` has, and else none.
-fn unmentioned_in(
+pub(crate) fn unmentioned_in(
     alloc: Global,
     names: bool,
     formulas: &[Formula],

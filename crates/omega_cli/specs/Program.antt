@@ -24,6 +24,10 @@ optional name = record (new_rule name) { long = Some name; value_names = 1 }
 abbrev pub optional_lettered : ℕ → Text → Rule
 optional_lettered letter name = record (optional name) { short = Some letter }
 
+-- the same, which may be given several times
+abbrev pub optional_repeated : ℕ → Text → Rule
+optional_repeated letter name = record (optional_lettered letter name) { action = Some Append }
+
 -- an option with a text, which may be left out and has another name on the command line
 abbrev pub optional_as : (shown : Text) → Text → Rule
 optional_as shown name = record (optional name) { long = Some shown }
@@ -100,11 +104,11 @@ abbrev pub contained : Shape
 contained = with_options (codes "contained") (required (codes "in") ∷ flag (codes "explain")
     ∷ flag (codes "stream") ∷ verbose ∷ operand (codes "file") ∷ [])
 
-abbrev pub equal : Shape
-equal = with_options (codes "equal")
-    (required (codes "to") ∷ flag (codes "explain") ∷ verbose ∷ operand (codes "file") ∷ [])
-
 -- 102 is the letter f
+abbrev pub equal : Shape
+equal = with_options (codes "equal") (optional (codes "to") ∷ optional_repeated 102 (codes "formula")
+    ∷ flag (codes "explain") ∷ verbose ∷ operand (codes "file") ∷ [])
+
 abbrev pub satisfies : Shape
 satisfies = with_options (codes "satisfies") (required_repeated 102 (codes "formula")
     ∷ optional_as (codes "word") (codes "word-text") ∷ flag (codes "explain")
@@ -126,7 +130,7 @@ trim = with_options (codes "trim") (flag (codes "stream") ∷ verbose ∷ operan
 
 abbrev pub ltl : Shape
 ltl = with_options (codes "ltl") (optional_lettered 102 (codes "formula") ∷ flag (codes "negated")
-    ∷ verbose ∷ operand (codes "file") ∷ [])
+    ∷ flag (codes "deterministic") ∷ verbose ∷ operand (codes "file") ∷ [])
 
 abbrev pub realize : Shape
 realize = with_options (codes "realize")

@@ -32,6 +32,7 @@ pub fn options_in<'m, 'a>(found: &'m ArgMatches<'a>) -> Options<'m, 'a>
         for_some: found.get_str("some"),
         formulas: found.get_strs("formula"),
         negated: found.get_str("negated"),
+        deterministic: found.get_str("deterministic"),
         status: found.get_str("status"),
         with: found.get_str("with"),
         trim: found.get_str("trim"),

@@ -54,11 +54,31 @@ they first stand there. Each set of its acceptance has to come again and again: 
 that promises something, as F, U and M do. It may have choices: see `omega complement` for what is refused
 then. `omega trim` drops the states from which nothing is accepted.
 
+--deterministic writes a deterministic automaton with a parity acceptance in its place. It is found by a
+search (Safra trees, as nested brackets; a product of the parts of the formula with Zielonka trees), and
+then judged as `omega equal -f` judges: only what accepts exactly the words that satisfy the formula is
+written. If it does not, which is a fault of the program, the refusal is 59 Unjudged. It has no name:, and a
+negation is written into the formula, since --negated goes without.
+
+  $ omega ltl --deterministic -f 'F G a'
+  HOA: v1
+  States: 1
+  Start: 0
+  AP: 1 \"a\"
+  acc-name: parity min even 3
+  Acceptance: 3 Inf(0)|Fin(1)&Inf(2)
+  --BODY--
+  State: 0
+  [!0] 0 {1}
+  [0] 0 {2}
+  --END--
+
 A formula's text is refused as 4 TooLong over 16777216 bytes, and as 1 Lex or 3 Syntax with the place of the
 fault; as 32 TooDeep if it is nested over 256 deep, and else as 55 TooLarge if it has over 4096 operators,
 names and constants, or over 64 different names. 55 TooLarge comes too if the automaton would have over
 1048576 states or 8388608 edges or labels over their limits, if a state or a part of the formula leads to
-over 4096 cases, or if over 64 parts promise something.
+over 4096 cases, or if over 64 parts promise something. With --deterministic it comes too if there are over
+16 names, or over 12 in one of the formula's parts, or if the search passes its limits.
 
 Exit status: 0 done, 1 the text or the task is refused, 2 the command line is wrong, 4 out of memory, 5
 a read or a write failed.";
@@ -73,6 +93,11 @@ const OPTIONS: &[OptionHelp] = &[
         name: "negated",
         value: Value::None,
         help: "Accept the words that do not satisfy the formula",
+    },
+    OptionHelp {
+        name: "deterministic",
+        value: Value::None,
+        help: "Write a deterministic automaton, with a parity acceptance",
     },
     VERBOSE,
     FILE,

@@ -26,6 +26,8 @@ pub enum Value {
     Optional(&'static str),
     /// A text. The option may be left out, and also has this letter, after one dash.
     OptionalLettered(char, &'static str),
+    /// A text. The option may be left out or given several times, and also has this letter, after one dash.
+    OptionalRepeated(char, &'static str),
     /// A text. The option may be left out, and has this name after its two dashes, in place of the one by which it is
     /// found.
     OptionalAs(&'static str, &'static str),
@@ -56,6 +58,12 @@ impl OptionHelp {
             Value::Optional(name) => arg.long(self.name).value_name(name),
             Value::OptionalLettered(letter, name) => {
                 arg.long(self.name).short(letter).value_name(name)
+            }
+            Value::OptionalRepeated(letter, name) => {
+                arg.long(self.name)
+                    .short(letter)
+                    .value_name(name)
+                    .action(ArgAction::Append)
             }
             Value::OptionalAs(long, name) => arg.long(long).value_name(name),
             Value::Required(name) => arg.long(self.name).value_name(name).required(true),

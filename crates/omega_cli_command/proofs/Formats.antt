@@ -47,6 +47,7 @@ automata_are_asked subcommand options one.Game format asks = absurd asks
 automata_are_asked subcommand options one.Complement format asks = absurd asks
 automata_are_asked subcommand options one.Trim format asks = absurd asks
 automata_are_asked subcommand options (one.Ltl negated) format asks = absurd asks
+automata_are_asked subcommand options one.LtlDeterministic format asks = absurd asks
 automata_are_asked subcommand options (one.Realize controller) format asks = absurd asks
 automata_are_asked subcommand options (one.RealizeByLifting controller) format asks = absurd asks
 automata_are_asked subcommand options one.RealizabilityGame format asks = absurd asks

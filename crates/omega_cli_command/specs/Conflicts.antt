@@ -32,6 +32,7 @@ IsUsed name.WordText options = text_of name.WordText options ≢ None
 IsUsed name.ForSome options = GivesFlag (text_of name.ForSome options) true
 IsUsed name.Formula options = text_of name.Formula options ≢ None
 IsUsed name.Negated options = GivesFlag (text_of name.Negated options) true
+IsUsed name.Deterministic options = GivesFlag (text_of name.Deterministic options) true
 IsUsed name.Status options = GivesFlag (text_of name.Status options) true
 IsUsed name.With options = text_of name.With options ≢ None
 IsUsed name.Trim options = GivesFlag (text_of name.Trim options) true
@@ -57,8 +58,9 @@ IsUsed name.File options = text_of name.File options ≢ None
 -- the option of the subcommand that conflicts with this one. The search of `solve` is for both players, and that of
 -- `empty` makes no lifts. The progress of a stream is not reported. `verify` judges one thing, and only a game has
 -- parts, winners and names. Wrong winners are shown by no walk. One of a solution and a walk is drawn. The game of
--- `realize` is written without being solved. `ltl` has one formula, that of the option or that of a file, and
--- `satisfies` is asked of a word, or of the automaton or the stream of a file
+-- `realize` is written without being solved. `ltl` has one formula, that of the option or that of a file, and makes its
+-- negation not deterministic. `equal` compares with a file or with formulas, and `satisfies` is asked of a word, or of
+-- the automaton or the stream of a file
 abbrev pub IsApartFrom : OptionName → Subcommand → OptionName → Type 0
 IsApartFrom name.Search subcommand option =
     ((subcommand ≡ sub.Solve) × (option ≡ name.Player))
@@ -73,7 +75,9 @@ IsApartFrom name.Specification subcommand option = (subcommand ≡ sub.Verify)
 IsApartFrom name.Winners subcommand option = (subcommand ≡ sub.Verify) × (option ≡ name.Names)
 IsApartFrom name.Solution subcommand option = (subcommand ≡ sub.Draw) × (option ≡ name.Walk)
 IsApartFrom name.Controller subcommand option = (subcommand ≡ sub.Realize) × (option ≡ name.AsGame)
-IsApartFrom name.Formula subcommand option = (subcommand ≡ sub.Ltl) × (option ≡ name.File)
+IsApartFrom name.Formula subcommand option = ((subcommand ≡ sub.Ltl) × (option ≡ name.File))
+    ⊎ ((subcommand ≡ sub.Equal) × (option ≡ name.To))
+IsApartFrom name.Negated subcommand option = (subcommand ≡ sub.Ltl) × (option ≡ name.Deterministic)
 IsApartFrom name.WordText subcommand option =
     (subcommand ≡ sub.Satisfies) × ((option ≡ name.File) ⊎ (option ≡ name.Stream))
 IsApartFrom name.Lift subcommand option = (subcommand ≡ sub.Realize) × (option ≡ name.AsGame)

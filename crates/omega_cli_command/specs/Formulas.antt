@@ -11,6 +11,9 @@ use Rattle.omega_cli_command.specs.declared.subcommand.Subcommand.TheVariants as
 
 -- the subcommand, with these options, asks for this of the text of the input by these formulas
 abbrev pub AsksFormulas : Subcommand → Options → Formulas → List (List ℕ) → Type 0
+AsksFormulas subcommand options (asked.Equal explain) formulas = (subcommand ≡ sub.Equal)
+    × GivesFormulas options formulas × GivesFlag (text_of name.Explain options) explain
+    × (text_of name.To options ≡ None)
 AsksFormulas subcommand options (asked.Satisfies explain) formulas = (subcommand ≡ sub.Satisfies)
     × GivesFormulas options formulas × GivesFlag (text_of name.Explain options) explain
     × GivesFlag (text_of name.Stream options) false × (text_of name.WordText options ≡ None)

@@ -52,6 +52,11 @@ AsksOneText subcommand options one.Trim =
     (subcommand ≡ sub.Trim) × GivesFlag (text_of name.Stream options) false
 AsksOneText subcommand options (one.Ltl negated) = (subcommand ≡ sub.Ltl)
     × GivesFlag (text_of name.Negated options) negated
+    × GivesFlag (text_of name.Deterministic options) false
+    × ((text_of name.Formula options ≡ None) ⊎ (text_of name.File options ≡ None))
+AsksOneText subcommand options one.LtlDeterministic = (subcommand ≡ sub.Ltl)
+    × GivesFlag (text_of name.Negated options) false
+    × GivesFlag (text_of name.Deterministic options) true
     × ((text_of name.Formula options ≡ None) ⊎ (text_of name.File options ≡ None))
 AsksOneText subcommand options (one.Realize controller) =
     (subcommand ≡ sub.Realize) × GivesFlag (text_of name.Lift options) false

@@ -34,6 +34,8 @@ text_of name.WordText options = option_map (λ text. text.now) options.word_text
 text_of name.ForSome options = option_map (λ text. text.now) options.for_some
 text_of name.Formula options = slice_get (formulas_of options) 0
 text_of name.Negated options = option_map (λ text. text.now) options.negated
+text_of name.Deterministic options =
+    option_map (λ text. text.now) options.deterministic
 text_of name.Status options = option_map (λ text. text.now) options.status
 text_of name.With options = option_map (λ text. text.now) options.with
 text_of name.Trim options = option_map (λ text. text.now) options.trim

@@ -64,6 +64,7 @@ IsReason name.WordText text why = ⊥
 IsReason name.ForSome text why = why ≡ reason.NoTruth
 IsReason name.Formula text why = ⊥
 IsReason name.Negated text why = why ≡ reason.NoTruth
+IsReason name.Deterministic text why = why ≡ reason.NoTruth
 IsReason name.Status text why = why ≡ reason.NoTruth
 IsReason name.With text why = ⊥
 IsReason name.Trim text why = why ≡ reason.NoTruth

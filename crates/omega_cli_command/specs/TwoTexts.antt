@@ -89,6 +89,7 @@ AsksTwoTexts subcommand options (two.ContainedStream explain) source = (subcomma
     × GivesFlag (text_of name.Stream options) true
 AsksTwoTexts subcommand options (two.Equal explain) source = (subcommand ≡ sub.Equal)
     × NamesOther (text_of name.To options) source × GivesFlag (text_of name.Explain options) explain
+    × (text_of name.Formula options ≡ None)
 AsksTwoTexts subcommand options (two.DrawSolution from depth legend) source =
     (subcommand ≡ sub.Draw) × AsksToDraw options (text_of name.Solution options)
     (text_of name.Walk options) from depth legend source

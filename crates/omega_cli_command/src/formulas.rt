@@ -1,6 +1,11 @@
 /// A command that asks formulas of the text of the input, one after the other.
 #[derive(Clone, Copy, Debug)]
 pub enum Formulas {
+    /// Says whether the automaton of the input accepts exactly the words that satisfy the formula.
+    Equal {
+        /// Whether a `no` is explained.
+        explain: bool,
+    },
     /// Says whether each word that the automaton of the input accepts satisfies the formula.
     Satisfies {
         /// Whether a `no` is explained.

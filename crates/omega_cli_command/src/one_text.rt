@@ -67,6 +67,8 @@ pub enum OneText {
         /// Whether it accepts those that do not.
         negated: bool,
     },
+    /// Writes a deterministic parity automaton that accepts the words that satisfy a formula.
+    LtlDeterministic,
     /// Says whether an automaton is realizable. Decided by a search whose answer is judged, and by lifting if the
     /// search finds nothing.
     Realize {

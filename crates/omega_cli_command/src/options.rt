@@ -27,6 +27,7 @@ pub enum OptionName {
     ForSome,
     Formula,
     Negated,
+    Deterministic,
     Status,
     With,
     Trim,
@@ -73,6 +74,7 @@ impl fmt::Display for OptionName {
             OptionName::ForSome => "--some",
             OptionName::Formula => "--formula <FORMULA>",
             OptionName::Negated => "--negated",
+            OptionName::Deterministic => "--deterministic",
             OptionName::Status => "--status",
             OptionName::With => "--with <FILE>",
             OptionName::Trim => "--trim",
@@ -137,6 +139,8 @@ pub struct Options<'m, 'a> {
     pub formulas: Option<&'m [&'a str]>,
     /// As `search`.
     pub negated: Option<&'a str>,
+    /// As `search`.
+    pub deterministic: Option<&'a str>,
     /// As `search`.
     pub status: Option<&'a str>,
     /// The name of the file of the other automaton.

@@ -8,6 +8,7 @@ mod check;
 mod draw;
 mod empty;
 mod formats;
+mod formula_texts;
 mod ltl;
 mod realize;
 mod satisfies;

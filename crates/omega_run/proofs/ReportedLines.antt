@@ -8,7 +8,7 @@ use Rattle.omega_answers_synth.specs.Observing as realize
 use Rattle.omega_cli_command.specs.declared.command.Command.{Command}
 use Rattle.omega_cli_command.specs.declared.command.Command.TheVariants as command
 use Rattle.omega_cli_command.specs.declared.one_text.OneText.{OneText}
-use Rattle.omega_cli_command.specs.declared.one_text.OneText.TheVariants.{Canon, CanonLeast, CanonPart, Check, Complement, DrawAutomaton, DrawGame, DrawLasso, DrawPart, Empty, EmptySearch, Game, Ltl, RealizabilityGame, Realize, RealizeByLifting, Search, Show, ShowJson, Solve, Trim}
+use Rattle.omega_cli_command.specs.declared.one_text.OneText.TheVariants.{Canon, CanonLeast, CanonPart, Check, Complement, DrawAutomaton, DrawGame, DrawLasso, DrawPart, Empty, EmptySearch, Game, Ltl, LtlDeterministic, RealizabilityGame, Realize, RealizeByLifting, Search, Show, ShowJson, Solve, Trim}
 use Rattle.omega_game_values.specs.declared.player.Player.{Player}
 use Rattle.omega_io.specs.declared.exit.Exit.{Exit}
 use Rattle.omega_io.specs.declared.refused.Refused.{Refused}
@@ -84,6 +84,7 @@ module _ {L : Type 0} (held : L → Option (List ℕ)) (failed : L → ℕ) (eve
   one_text_lines Complement made kept = no_lines kept
   one_text_lines Trim made kept = no_lines kept
   one_text_lines (Ltl negated) made kept = no_lines kept
+  one_text_lines LtlDeterministic made kept = no_lines kept
   one_text_lines (Realize controller) made kept = no_lines kept
   one_text_lines RealizabilityGame made kept = no_lines kept
   one_text_lines DrawGame made kept = no_lines kept

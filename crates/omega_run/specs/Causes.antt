@@ -20,6 +20,7 @@ use Rattle.omega_cli_command.specs.declared.formulas.Formulas.TheVariants as ask
 use Rattle.omega_cli_command.specs.declared.one_text.OneText.{OneText}
 use Rattle.omega_cli_command.specs.declared.one_text.OneText.TheVariants.{Canon, CanonLeast, CanonPart}
 use Rattle.omega_cli_command.specs.declared.one_text.OneText.TheVariants.{Check, DrawGame, DrawPart, Ltl}
+use Rattle.omega_cli_command.specs.declared.one_text.OneText.TheVariants.{LtlDeterministic}
 use Rattle.omega_cli_command.specs.declared.one_text.OneText.TheVariants.{Search, Show, ShowJson, Solve}
 use Rattle.omega_cli_command.specs.declared.two_texts.TwoTexts.{TwoTexts}
 use Rattle.omega_cli_command.specs.declared.two_texts.TwoTexts.TheVariants as two
@@ -44,6 +45,7 @@ kind_of_one (Search from by effort) = kind.Game
 kind_of_one DrawGame = kind.Game
 kind_of_one (DrawPart from depth) = kind.Game
 kind_of_one (Ltl negated) = kind.Other
+kind_of_one LtlDeterministic = kind.Other
 kind_of_one other = kind.Automata
 
 -- what a command reads each of two texts as: an automaton, unless it is named here
@@ -68,6 +70,7 @@ kind_of_two asked which = kind.Automata
 
 -- what a command that asks formulas reads the text of the input as
 abbrev pub kind_asked : Formulas → TextKind
+kind_asked (asked.Equal explain) = kind.Automata
 kind_asked (asked.Satisfies explain) = kind.Automata
 kind_asked (asked.SatisfiesStream explain) = kind.Automata
 kind_asked (asked.SatisfiesWord explain) = kind.Other

@@ -4,8 +4,8 @@ use Rattle.std.specs.Prelude.{Ok, Err, ℕ, codes, decimal, length, nat_lt, slic
 use Rattle.std.specs.List.{flat_map}
 use Rattle.omega_text.specs.declared.refusal.Refusal.{Refusal}
 use Rattle.omega_cli_command.specs.declared.formulas.Formulas.{Formulas}
-use Rattle.omega_cli_command.specs.declared.formulas.Formulas.TheVariants.{Satisfies, SatisfiesStream}
-use Rattle.omega_cli_command.specs.declared.formulas.Formulas.TheVariants.{SatisfiesWord}
+use Rattle.omega_cli_command.specs.declared.formulas.Formulas.TheVariants.{Equal, Satisfies}
+use Rattle.omega_cli_command.specs.declared.formulas.Formulas.TheVariants.{SatisfiesStream, SatisfiesWord}
 use Rattle.omega_io.specs.declared.exit.Exit.{Exit}
 use Rattle.omega_io.specs.declared.refused.Refused.{Refused}
 use Rattle.omega_io.specs.Exit.{status_of}
@@ -26,6 +26,7 @@ use Rattle.omega_run.specs.declared.text_kind.TextKind.TheVariants as kind
 
 -- what the text of the input is called
 abbrev pub input_name : Formulas → List ℕ
+input_name (Equal explain) = codes "automaton"
 input_name (Satisfies explain) = codes "automaton"
 input_name (SatisfiesStream explain) = codes "automaton"
 input_name (SatisfiesWord explain) = codes "word"
@@ -54,6 +55,8 @@ name_lines names = flat_map name_line names
 -- stream none is told, nor of words, which leave open what they do not say
 abbrev pub AreUnmentionedIn : Formulas → (verbose : Bool) → (formulas : List (List ℕ))
     → (input : List ℕ) → List (List ℕ) → Type 0
+AreUnmentionedIn (Equal explain) verbose formulas input names =
+    AreUnmentioned verbose formulas input names
 AreUnmentionedIn (Satisfies explain) verbose formulas input names =
     AreUnmentioned verbose formulas input names
 AreUnmentionedIn (SatisfiesStream explain) verbose formulas input names = names ≡ []

@@ -2,11 +2,12 @@
 -- about.
 use Rattle.std.specs.Prelude.{◌≡◌, List, Result, Ok, Err, ℕ}
 use Rattle.omega_cli_command.specs.declared.formulas.Formulas.{Formulas}
-use Rattle.omega_cli_command.specs.declared.formulas.Formulas.TheVariants.{Satisfies, SatisfiesStream}
-use Rattle.omega_cli_command.specs.declared.formulas.Formulas.TheVariants.{SatisfiesWord}
+use Rattle.omega_cli_command.specs.declared.formulas.Formulas.TheVariants.{Equal, Satisfies}
+use Rattle.omega_cli_command.specs.declared.formulas.Formulas.TheVariants.{SatisfiesStream, SatisfiesWord}
 use Rattle.omega_io.specs.declared.exit.Exit.{Exit}
 use Rattle.omega_io.specs.declared.refused.Refused.{Refused}
 use Rattle.omega_answers_formula.specs.Refused.{unnumbered}
+use Rattle.omega_answers_formula.specs.EqualFormula.{AreEqualAnswers, AreEqualRefused}
 use Rattle.omega_answers_formula.specs.Satisfies.{AreSatisfiesAnswers, AreSatisfiesRefused}
 use Rattle.omega_answers_formula.specs.SatisfiesStream.{AreSatisfiesStreamAnswers}
 use Rattle.omega_answers_formula.specs.SatisfiesStream.{AreSatisfiesStreamRefused}
@@ -16,6 +17,7 @@ use Rattle.omega_answers_formula.specs.declared.refused_formulas.RefusedFormulas
 -- what the command makes of the texts of formulas and of that of the input: how it ends and its output
 abbrev pub AnswersFormulas : Formulas → (formulas : List (List ℕ)) → (input : List ℕ)
     → Exit → List ℕ → Type 0
+AnswersFormulas (Equal explain) formulas input = AreEqualAnswers formulas input explain
 AnswersFormulas (Satisfies explain) formulas input = AreSatisfiesAnswers formulas input explain
 AnswersFormulas (SatisfiesStream explain) formulas input =
     AreSatisfiesStreamAnswers formulas input explain
@@ -25,6 +27,7 @@ AnswersFormulas (SatisfiesWord explain) formulas input =
 -- why the texts are refused, and what that is about
 abbrev pub RefusesFormulas : Formulas → (formulas : List (List ℕ)) → (input : List ℕ)
     → RefusedFormulas → Type 0
+RefusesFormulas (Equal explain) formulas input = AreEqualRefused formulas input explain
 RefusesFormulas (Satisfies explain) formulas input = AreSatisfiesRefused formulas input explain
 RefusesFormulas (SatisfiesStream explain) formulas input =
     AreSatisfiesStreamRefused formulas input explain

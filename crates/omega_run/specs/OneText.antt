@@ -8,6 +8,7 @@ use Rattle.omega_cli_command.specs.declared.one_text.OneText.TheVariants.{Canon,
 use Rattle.omega_cli_command.specs.declared.one_text.OneText.TheVariants.{Check, Complement, DrawAutomaton}
 use Rattle.omega_cli_command.specs.declared.one_text.OneText.TheVariants.{DrawGame, DrawLasso, DrawPart}
 use Rattle.omega_cli_command.specs.declared.one_text.OneText.TheVariants.{Empty, EmptySearch, Game, Ltl}
+use Rattle.omega_cli_command.specs.declared.one_text.OneText.TheVariants.{LtlDeterministic}
 use Rattle.omega_cli_command.specs.declared.one_text.OneText.TheVariants.{RealizabilityGame, Realize}
 use Rattle.omega_cli_command.specs.declared.one_text.OneText.TheVariants.{RealizeByLifting, Search, Show}
 use Rattle.omega_cli_command.specs.declared.one_text.OneText.TheVariants.{ShowJson, Solve, Trim}
@@ -20,6 +21,7 @@ use Rattle.omega_answers_empty.specs.Game.{IsEmptinessGameAnswer, IsEmptinessGam
 use Rattle.omega_answers_empty.specs.declared.lines.Lines.{Lines}
 use Rattle.omega_answers_empty.specs.empty.Answer.{EndsEmpty, EndsEmptySearch, IsEmptyRefusal}
 use Rattle.omega_answers_empty.specs.empty.Answer.{IsEmptySearchRefusal}
+use Rattle.omega_answers_formula.specs.Deterministic.{IsDeterministicAnswer, IsDeterministicRefusal}
 use Rattle.omega_answers_formula.specs.Ltl.{IsLtlAnswer, IsLtlRefusal}
 use Rattle.omega_answers_game.specs.Canon.{IsCanonAnswer, IsCanonPartAnswer}
 use Rattle.omega_answers_game.specs.Check.{IsCheckAnswer}
@@ -81,6 +83,8 @@ AnswersOneText (EmptySearch word names status) budget text =
     Concludes (EndsEmptySearch text (lines_for word names) status) (IsEmptySearchRefusal text)
 AnswersOneText Complement budget text = Replies (IsComplementAnswer text) (IsComplementRefusal text)
 AnswersOneText (Ltl negated) budget text = Replies (IsLtlAnswer text negated) (IsLtlRefusal text)
+AnswersOneText LtlDeterministic budget text =
+    Replies (IsDeterministicAnswer text) (IsDeterministicRefusal text)
 AnswersOneText Trim budget text = Replies (IsTrimAnswer text) (IsTrimAnswerRefusal text)
 AnswersOneText Game budget text = Replies (IsEmptinessGameAnswer text) (IsEmptinessGameRefusal text)
 AnswersOneText (Realize false) budget text =

@@ -16,7 +16,7 @@ use crate::reporting::{line_in, report, report_lines};
 use crate::text_kind::{TextKind, kind_asked};
 use crate::writing::write_made;
 use omega_answers_formula::{
-    About, FormulaAnswers, RefusedFormulas, satisfies_each, satisfies_stream_each,
+    About, FormulaAnswers, RefusedFormulas, equal_each, satisfies_each, satisfies_stream_each,
     satisfies_word_each,
 };
 use omega_cli_command::{ByteString, Formulas};
@@ -40,6 +40,7 @@ fn answer_formulas(
     ensures refused { IfErr result (RefusesFormulas asked formulas.now input.now) }
 {
     match asked {
+        Formulas::Equal { explain } => equal_each(alloc, formulas, input, explain, names),
         Formulas::Satisfies { explain } => satisfies_each(alloc, formulas, input, explain, names),
         Formulas::SatisfiesStream { explain } => satisfies_stream_each(
             alloc, formulas, input, explain,
@@ -224,7 +225,9 @@ fn input_name(asked: Formulas) -> &'static str
     ensures { result.now ≡ input_name asked }
 {
     match asked {
-        Formulas::Satisfies { .. } | Formulas::SatisfiesStream { .. } => "automaton",
+        Formulas::Equal { .. } | Formulas::Satisfies { .. } | Formulas::SatisfiesStream { .. } => {
+            "automaton"
+        }
         Formulas::SatisfiesWord { .. } => "word",
     }
 }

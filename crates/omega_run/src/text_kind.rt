@@ -55,6 +55,7 @@ fn kind_of_one(command: OneText) -> TextKind
         | OneText::DrawGame
         | OneText::DrawPart { .. } => TextKind::Game,
         OneText::Ltl { .. } => TextKind::Other,
+        OneText::LtlDeterministic => TextKind::Other,
         _ => TextKind::Automata,
     }
 }
@@ -64,7 +65,9 @@ pub(crate) fn kind_asked(asked: Formulas) -> TextKind
     ensures { result ≡ kind_asked asked }
 {
     match asked {
-        Formulas::Satisfies { .. } | Formulas::SatisfiesStream { .. } => TextKind::Automata,
+        Formulas::Equal { .. } | Formulas::Satisfies { .. } | Formulas::SatisfiesStream { .. } => {
+            TextKind::Automata
+        }
         Formulas::SatisfiesWord { .. } => TextKind::Other,
     }
 }

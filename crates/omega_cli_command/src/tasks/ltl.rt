@@ -17,8 +17,15 @@ pub(crate) fn ltl_task<'a>(options: &Options<'_, 'a>) -> Result<Task, Mistake<'a
     ensures mistaken { IfErr result (IsMistake sub.Ltl options.now) }
 {
     let negated = is_set(OptionName::Negated, options.negated)?;
+    let deterministic = is_set(OptionName::Deterministic, options.deterministic)?;
     if options.first_formula().is_some() && options.file.is_some() {
         return Err(Mistake::Conflict(OptionName::Formula, OptionName::File));
     }
-    Ok(Task::of(Command::OneText(OneText::Ltl { negated })))
+    if !deterministic {
+        return Ok(Task::of(Command::OneText(OneText::Ltl { negated })));
+    }
+    if negated {
+        return Err(Mistake::Conflict(OptionName::Negated, OptionName::Deterministic));
+    }
+    Ok(Task::of(Command::OneText(OneText::LtlDeterministic)))
 }

@@ -1,9 +1,7 @@
 //! The task that `satisfies` requests.
-ghost use Rattle.std.specs.Prelude.{◌≡◌, IfErr, IfOk, map};
+ghost use Rattle.std.specs.Prelude.{IfErr, IfOk};
 ghost use Rattle.omega_cli_command.specs.Mistakes.{IsMistake};
-ghost use Rattle.omega_cli_command.specs.Options.{formulas_of};
 ghost use Rattle.omega_cli_command.specs.Task.{AsksFor};
-ghost use Rattle.omega_cli_command.specs.declared.mistake.Mistake.TheVariants as mistake;
 ghost use Rattle.omega_cli_command.specs.declared.subcommand.Subcommand.TheVariants as sub;
 
 use crate::command::Command;
@@ -11,9 +9,9 @@ use crate::formulas::Formulas;
 use crate::mistake::Mistake;
 use crate::options::{OptionName, Options};
 use crate::task::Task;
+use crate::tasks::formula_texts::formulas_in;
 use crate::values::is_set;
-use omega_text::ByteString;
-use std::alloc::{AllocError, Global};
+use std::alloc::Global;
 
 /// Returns the task that `satisfies` requests with `options`, or what is wrong with them.
 pub(crate) fn satisfies_task<'a>(
@@ -42,38 +40,4 @@ pub(crate) fn satisfies_task<'a>(
     } else {
         Ok(Task::of(Command::Formulas(Formulas::Satisfies { explain }, formulas)))
     }
-}
-
-/// Returns a copy of the texts of the formulas.
-fn formulas_in<'a>(alloc: Global, options: &Options<'_, 'a>) -> Result<Vec<ByteString>, Mistake<'a>>
-    ensures formulas { IfOk result (λ formulas. formulas.items ≡ formulas_of options.now) }
-    ensures memory { IfErr result (λ found. found ≡ mistake.Memory) }
-{
-    match options.formulas {
-        Some(texts) => strings_of(alloc, texts),
-        None => Ok(Vec::new(alloc)),
-    }
-}
-
-/// Returns a copy of the texts.
-fn strings_of<'a>(alloc: Global, texts: &[&str]) -> Result<Vec<ByteString>, Mistake<'a>>
-    ensures strings { IfOk result
-        (λ strings. strings.items ≡ map (λ text. text.now) texts.now) }
-    ensures memory { IfErr result (λ found. found ≡ mistake.Memory) }
-{
-    match copy_of(alloc, texts) {
-        Ok(strings) => Ok(strings),
-        Err(_) => Err(Mistake::Memory),
-    }
-}
-
-/// Returns a copy of the texts, in one pass.
-fn copy_of(alloc: Global, texts: &[&str]) -> Result<Vec<ByteString>, AllocError>
-    ensures { IfOk result (λ strings. strings.items ≡ map (λ text. text.now) texts.now) }
-{
-    let mut strings = Vec::with_capacity(alloc, texts.len())?;
-    for text in texts {
-        strings.push(ByteString::from_slice(alloc, text.as_bytes())?)?;
-    }
-    Ok(strings)
 }

@@ -1,14 +1,16 @@
-//! The tasks about two automata, or about an automaton and a word.
+//! The tasks about two automata, or about an automaton and a word or formulas.
 ghost use Rattle.std.specs.Prelude.{IfErr, IfOk};
 ghost use Rattle.omega_cli_command.specs.Mistakes.{IsMistake};
 ghost use Rattle.omega_cli_command.specs.Task.{AsksFor};
 ghost use Rattle.omega_cli_command.specs.declared.subcommand.Subcommand.TheVariants as sub;
 
 use crate::command::Command;
+use crate::formulas::Formulas;
 use crate::mistake::Mistake;
 use crate::options::{OptionName, Options};
 use crate::other::Other;
 use crate::task::Task;
+use crate::tasks::formula_texts::formulas_in;
 use crate::two_texts::TwoTexts;
 use crate::values::{is_set, other_in};
 use std::alloc::Global;
@@ -79,6 +81,13 @@ pub(crate) fn equal_task<'a>(alloc: Global, options: &Options<'_, 'a>) -> Result
     ensures mistaken { IfErr result (IsMistake sub.Equal options.now) }
 {
     let explain = is_set(OptionName::Explain, options.explain)?;
+    if options.first_formula().is_some() {
+        if options.to.is_some() {
+            return Err(Mistake::Conflict(OptionName::Formula, OptionName::To));
+        }
+        let formulas = formulas_in(alloc, options)?;
+        return Ok(Task::of(Command::Formulas(Formulas::Equal { explain }, formulas)));
+    }
     let Some(name) = options.to else {
         return Err(Mistake::Missing(OptionName::To));
     };

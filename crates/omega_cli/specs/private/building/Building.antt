@@ -4,8 +4,9 @@ use Rattle.clap.specs.Simple.{new_shape}
 use Rattle.clap.specs.Words.{App, Rule, Shape, Text, with_rule, with_subcommand}
 use Rattle.omega_cli.specs.Program.{accepts, canon, check, complement, contained, draw, empty, equal}
 use Rattle.omega_cli.specs.Program.{flag, game, join, lettered, ltl, meet, named, operand, optional}
-use Rattle.omega_cli.specs.Program.{optional_as, optional_lettered, realize, required, required_as}
-use Rattle.omega_cli.specs.Program.{required_repeated, satisfies, show, solve, trim, verify}
+use Rattle.omega_cli.specs.Program.{optional_as, optional_lettered, optional_repeated, realize}
+use Rattle.omega_cli.specs.Program.{required, required_as, required_repeated, satisfies, show, solve}
+use Rattle.omega_cli.specs.Program.{trim, verify}
 use Rattle.omega_cli.specs.declared.options.OptionHelp.{OptionHelp}
 use Rattle.omega_cli.specs.declared.options.Value.{Value}
 use Rattle.omega_cli.specs.declared.options.Value.TheVariants as value
@@ -19,6 +20,7 @@ rule_by (value.Letter letter) name = lettered letter name
 rule_by (value.Long shown) name = named shown.now name
 rule_by (value.Optional shown) name = optional name
 rule_by (value.OptionalLettered letter shown) name = optional_lettered letter name
+rule_by (value.OptionalRepeated letter shown) name = optional_repeated letter name
 rule_by (value.OptionalAs long shown) name = optional_as long.now name
 rule_by (value.Required shown) name = required name
 rule_by (value.RequiredRepeated letter shown) name = required_repeated letter name

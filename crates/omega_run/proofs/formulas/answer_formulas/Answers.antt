@@ -1,6 +1,12 @@
 -- `answer_formulas`: the answers are those of the command.
 use Rattle.omega_run.proofs.formulas.answer_formulas.Goals as goal
 
+pub returns-in-Equal-clause-answered : goal.returns-in-Equal-clause-answered
+returns-in-Equal-clause-answered c = rw c.in-Equal.is c.equal_each.ensures.answers
+
+pub returns-in-Equal-clause-unmentioned : goal.returns-in-Equal-clause-unmentioned
+returns-in-Equal-clause-unmentioned c = rw c.in-Equal.is c.equal_each.ensures.unmentioned
+
 pub returns-in-Satisfies-clause-answered : goal.returns-in-Satisfies-clause-answered
 returns-in-Satisfies-clause-answered c = rw c.in-Satisfies.is c.satisfies_each.ensures.answers
 
