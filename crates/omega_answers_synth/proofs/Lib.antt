@@ -10,6 +10,8 @@ pub mod Alike
 pub mod Literals
 pub mod Reported
 pub mod CounterReported
+pub mod FormulaReported
+pub mod OutputNames
 pub mod ControllerStated
 mod Named
 pub mod Exact

@@ -11,6 +11,9 @@ pub mod Letter
 pub mod Reason
 pub mod Verify
 pub mod Counter
+pub mod Outputs
+pub mod FormulaController
+pub mod FormulaCounter
 pub mod Laws
 pub use Rattle.omega_text.specs.Cases
 pub use Rattle.omega_text.specs.Refusal

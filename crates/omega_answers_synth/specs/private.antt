@@ -3,5 +3,6 @@ pub mod Decided
 pub mod Game
 pub mod Question
 pub mod Alike
+pub mod Listed
 pub mod Literals
 pub mod Reported
