@@ -3,5 +3,6 @@ pub mod Inclusion
 pub mod Joined
 pub mod Memberships
 pub mod Parted
+pub mod Satisfying
 pub mod Texts
 pub mod Trimmed

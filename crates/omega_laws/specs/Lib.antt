@@ -2,6 +2,7 @@
 -- The laws of automata without useless states.
 -- The laws of unions.
 -- The law of the words that `empty --word` writes.
+-- The laws of what `satisfies` answers.
 -- The laws of the texts of controllers, of what is answered to them, and of answers by lifting.
 pub mod ComplementTexts
 pub mod Containment
@@ -14,5 +15,6 @@ pub mod Unions
 pub mod WrittenTexts
 pub mod WrittenWords
 pub mod ControllerTexts
+pub mod FormulaTexts
 pub mod LiftedAnswers
 pub mod WrittenControllers

@@ -7,6 +7,8 @@
 //!
 //! A law of `accepts`: it accepts the word that `empty --word` writes. No code that runs.
 //!
+//! Laws of `satisfies`: what its answers say of the words that a text accepts or admits. No code that runs.
+//!
 //! Laws of `realize`: that the text of a controller is read back, that `verify --specification` judges it right, and
 //! that answers by lifting are given within the budget. No code that runs.
 #![tactic(auto)]
@@ -14,6 +16,7 @@
 mod complement_texts;
 mod containment;
 mod controller_texts;
+mod formula_texts;
 mod inclusion_texts;
 mod lifted_answers;
 mod product_texts;
@@ -27,6 +30,7 @@ mod written_words;
 pub use complement_texts::{complement_texts_accept_the_rest, complements_are_read_back};
 pub use containment::{empty_means_contained, lassos_mean_not_contained, met_texts_accept_both};
 pub use controller_texts::controllers_are_read_back;
+pub use formula_texts::{admitted_words_satisfy, satisfying_texts_satisfy};
 pub use inclusion_texts::{
     accepted_texts_are_accepted, contained_texts_are_contained, equal_texts_are_equal,
     some_texts_are_accepted,

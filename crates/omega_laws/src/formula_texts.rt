@@ -1,0 +1,35 @@
+//! Laws of what `satisfies` answers, in words of texts and of the words that automata accept and that satisfy formulas:
+//! each call does nothing and states one law.
+
+ghost use Rattle.omega_laws.specs.FormulaTexts.{AdmittedWordsSatisfy, SatisfyingTextsSatisfy};
+
+use omega_answers_formula::laws::formula_names_are_strings;
+use omega_hoa::automata_are_one;
+use omega_hoa_round_trips::read_automata_are_writable;
+use omega_lang_word_text::laws::{names_are_strings, words_of_texts_are_one};
+use omega_ltl_text::laws::formulas_of_texts_are_one;
+
+/// Shows what `satisfies` answers of the texts of formulas and of that of an automaton: for each formula `yes` only if
+/// each word that the automaton accepts satisfies it, and otherwise words that are accepted and do not satisfy it. With
+/// an explanation the answer ends in these words. `yes` has the premise of the limited principle of omniscience, and
+/// `no` has none.
+pub fn satisfying_texts_satisfy()
+    ensures { SatisfyingTextsSatisfy }
+{
+    automata_are_one();
+    read_automata_are_writable();
+    formulas_of_texts_are_one();
+    formula_names_are_strings();
+}
+
+/// Shows what `satisfies --word` answers of the texts of formulas and of that of a word: for each formula `yes` only if
+/// each word that is admitted satisfies it, and otherwise words that are admitted and do not satisfy it, with the same
+/// premise.
+pub fn admitted_words_satisfy()
+    ensures { AdmittedWordsSatisfy }
+{
+    names_are_strings();
+    words_of_texts_are_one();
+    formulas_of_texts_are_one();
+    formula_names_are_strings();
+}
