@@ -56,6 +56,10 @@ EXACT = {
         ("omega_laws.specs.InclusionTexts", "AcceptedTextsAreAccepted", frozenset({"IsAcceptsAnswer"})),
     "`omega accepts --some`, the law `some_texts_are_accepted`":
         ("omega_laws.specs.InclusionTexts", "SomeTextsAreAccepted", frozenset({"IsAcceptsSomeAnswer"})),
+    "`omega satisfies`, the law `satisfying_texts_satisfy`":
+        ("omega_laws.specs.FormulaTexts", "SatisfyingTextsSatisfy", frozenset({"AreSatisfiesAnswers"})),
+    "`omega satisfies --word`, the law `admitted_words_satisfy`":
+        ("omega_laws.specs.FormulaTexts", "AdmittedWordsSatisfy", frozenset({"AreSatisfiesWordAnswers"})),
     "`omega contained`, the law `contained_texts_are_contained`":
         ("omega_laws.specs.InclusionTexts", "ContainedTextsAreContained", frozenset({"IsContainedAnswer"})),
     "`omega equal`, the law `equal_texts_are_equal`":
@@ -100,7 +104,8 @@ COMMANDS = {
     "accepts --some": ("AcceptsSome",),
     "contained": ("Contained",),
     "contained --stream": ("ContainedStream",),
-    "equal": ("Equal",),
+    "equal": ("AnswersTwoTexts: Equal", "RefusesTwoTexts: Equal"),
+    "equal -f": ("AnswersFormulas: Equal", "RefusesFormulas: Equal"),
     "satisfies": ("Satisfies",),
     "satisfies --stream": ("SatisfiesStream",),
     "satisfies --word": ("SatisfiesWord",),
@@ -110,6 +115,7 @@ COMMANDS = {
     "complement": ("AnswersOneText: Complement",),
     "complement --stream": ("AnswersStream: Complement",),
     "ltl": ("Ltl",),
+    "ltl --deterministic": ("LtlDeterministic",),
     "trim": ("AnswersOneText: Trim",),
     "trim --stream": ("AnswersStream: Trim",),
     "realize": ("Realize false",),
