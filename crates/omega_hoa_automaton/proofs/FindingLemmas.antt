@@ -21,7 +21,7 @@ found-joined some others size more one other both first second joined = record {
 }
 
 -- the same by other words
-found-said : (some others : (Option Meaning → Bool) → Bool) (size more : ℕ) (found : Findings)
+pub found-said : (some others : (Option Meaning → Bool) → Bool) (size more : ℕ) (found : Findings)
     → ((test : Option Meaning → Bool) → others test ≡ some test) → more ≡ size → AreFound some size found → AreFound others more found
 found-said some others size more found same sum is = record {
   undefined = is.undefined ∙ sym (same is_none);

@@ -1,14 +1,9 @@
-ghost use Rattle.std.specs.Prelude.{◌≡◌, ◌≤◌, ◌++◌, [], false, length};
+ghost use Rattle.std.specs.Prelude.{◌≡◌, ◌≤◌, ◌++◌, [], None, length};
 ghost use Rattle.std.specs.Prelude.{slice_range, take, IfErr, IfOk, IsSome, OnOk};
-ghost use Rattle.std.specs.List.{list_any};
 ghost use Rattle.omega_text.specs.Cases.{IsMemory};
-ghost use Rattle.omega_hoa_label_text.specs.Expanding.{IsExpanded, IsExpansion};
-ghost use Rattle.omega_hoa_label_text.specs.Expanding.{IsUnexpanded, entries_of, replaced};
-ghost use Rattle.omega_hoa_expression.specs.Limits.{most_depth, most_size};
-ghost use Rattle.omega_hoa_label.specs.Raw.{raw_depth};
-ghost use Rattle.omega_hoa_label.specs.Bare.{is_alias};
+ghost use Rattle.omega_hoa_label_text.specs.Expanding.{IsExpanded, IsExpansion, IsUnexpanded, entries_of};
+ghost use Rattle.omega_hoa_label_text.specs.Expanding.{expansion, fault_of_meaning, replaced};
 ghost use Rattle.omega_hoa_label_text.specs.private.Emitting.{nodes_of};
-ghost use Rattle.omega_hoa_label.specs.Postfix.{raw_postfix};
 
 use crate::aliases::Aliases;
 use omega_hoa_expression::{MOST_DEPTH, MOST_SIZE, bytes_after, first_bytes};
@@ -29,61 +24,48 @@ pub fn expand(alloc: Global, raw: &RawLabel, aliases: &Aliases) -> Result<Label,
     ensures err { IfErr result (IsUnexpanded aliases.now raw.now) }
 {
     let size = expanded_size(alloc, raw, aliases)?;
-    replace_aliases(alloc, raw, aliases, size)
+    replace_aliases(alloc, raw, aliases, size as usize)
 }
 
 /// Expands `raw` as `expand` does, and drops it. A label without aliases keeps its memory, and nothing is copied.
-#[inline(always)]
 pub fn expand_in_place(alloc: Global, raw: RawLabel, aliases: &Aliases) -> Result<Label, Refusal>
     ensures ok { IfOk result (λ label. IsExpansion aliases.now raw label) }
     ensures err { IfErr result (IsUnexpanded aliases.now raw) }
 {
-    if raw.is_within_limits() {
-        // Most labels need no counting.
-        return Ok(bare_label(raw, aliases));
-    }
-    expand_counted(alloc, raw, aliases)
+    let _size = expanded_size(alloc, &raw, aliases)?;
+    expand_faultless(alloc, raw, aliases)
 }
 
-/// Drops the parentheses of a label without aliases, which makes its expansion whatever the aliases are. The aliases
-/// are an argument for the contract only.
+/// Expands `raw`, which has no fault, as `expand_in_place` does. It is not measured again.
 #[inline(always)]
-fn bare_label(raw: RawLabel, _aliases: &Aliases) -> Label
-    requires no_alias { list_any is_alias (raw_postfix raw) ≡ false }
-    requires shallow { raw_depth raw ≤ most_depth }
-    requires small { length (raw_postfix raw) ≤ most_size }
-    ensures { IsExpansion _aliases.now raw result }
-{
-    raw.without_parentheses()
-}
-
-/// Expands a label that is counted first.
-#[inline(never)]
-fn expand_counted(alloc: Global, raw: RawLabel, aliases: &Aliases) -> Result<Label, Refusal>
+pub fn expand_faultless(alloc: Global, raw: RawLabel, aliases: &Aliases) -> Result<Label, Refusal>
+    requires { fault_of_meaning (expansion aliases.now raw) ≡ None }
     ensures ok { IfOk result (λ label. IsExpansion aliases.now raw label) }
-    ensures err { IfErr result (IsUnexpanded aliases.now raw) }
+    ensures err { IfErr result IsMemory }
 {
-    let size = expanded_size(alloc, &raw, aliases)?;
     if raw.has_alias() {
-        replace_aliases(alloc, &raw, aliases, size)
+        replace_aliases(alloc, &raw, aliases, 0)
     } else {
         Ok(raw.without_parentheses())
     }
 }
 
-/// Replaces the aliases of `raw` by their definitions and drops its parentheses. The result has `size` tree nodes.
+/// Replaces the aliases of `raw` by their definitions and drops its parentheses. The label has no fault, and mostly as
+/// many tree nodes as there is `room` for at once.
+#[inline(never)]
 fn replace_aliases(
     alloc: Global,
     raw: &RawLabel,
     aliases: &Aliases,
-    size: u32,
+    room: usize,
 ) -> Result<Label, Refusal>
-    requires { IsExpanded aliases.now raw.now size }
+    requires { fault_of_meaning (expansion aliases.now raw.now) ≡ None }
     ensures ok { IfOk result (λ label. IsExpansion aliases.now raw.now label) }
     ensures err { IfErr result IsMemory }
 {
-    let mut nodes = Vec::with_capacity(alloc, size as usize)?;
+    let mut nodes = Vec::with_capacity(alloc, room)?;
     emit(aliases, raw, aliases.len(), &mut nodes)?;
+    nodes.shrink_to_fit();
     Label::from_postfix(alloc, nodes)
 }
 

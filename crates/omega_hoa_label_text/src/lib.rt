@@ -15,7 +15,7 @@ mod reading;
 mod unfinished;
 
 pub use aliases::Aliases;
-pub use expansion::{expand, expand_in_place, expanded_size};
+pub use expansion::{expand, expand_faultless, expand_in_place, expanded_size};
 pub use extents::Extent;
 pub use laws::labels_are_one;
 pub use reading::{read_label, read_raw_label};

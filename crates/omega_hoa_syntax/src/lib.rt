@@ -27,7 +27,7 @@ pub use laws::raws_are_one;
 pub use raw_automaton::RawAutomaton;
 pub use raw_edge::RawEdge;
 pub use raw_edge_ref::RawEdgeRef;
-pub use raw_edges::{HeldEdges, RawEdges};
+pub use raw_edges::{EdgeSlice, HeldEdges, RawEdges};
 pub use raw_item::RawItem;
 pub use raw_state::RawState;
 pub use reading::read_raw;

@@ -1,6 +1,6 @@
 ghost use Rattle.std.specs.Prelude.{◌≡◌, ◌<◌, [], ◌∷◌, ◌++◌, IfOk, IfSome};
 ghost use Rattle.std.specs.Prelude.{OnErr, OnOk, length, map, slice_index_or};
-ghost use Rattle.omega_hoa_syntax.specs.Edges.{edges_in, lengthened};
+ghost use Rattle.omega_hoa_syntax.specs.Edges.{edges_in, edges_seen, lengthened};
 
 use crate::raw_edge::RawEdge;
 use crate::raw_edge_ref::RawEdgeRef;
@@ -36,6 +36,15 @@ pub enum HeldEdges {
     Short(Seq<ShortEdge>),
     /// As they are.
     Full(Seq<RawEdge>),
+}
+
+/// The edges of a state as they are kept in memory.
+#[derive(Clone, Copy)]
+pub enum EdgeSlice<'a> {
+    /// In compact form.
+    Short(&'a [ShortEdge]),
+    /// As they are.
+    Full(&'a [RawEdge]),
 }
 
 impl Model for RawEdges {
@@ -112,6 +121,16 @@ impl RawEdges {
         match &self.held {
             Held::Short(edges) => short_edge(&edges[at]),
             Held::Full(edges) => full_edge(&edges[at]),
+        }
+    }
+
+    /// Returns the edges as they are kept in memory, for a pass over all of them.
+    pub fn slice(&self) -> EdgeSlice<'_>
+        ensures { edges_seen result ≡ self.now }
+    {
+        match &self.held {
+            Held::Short(edges) => EdgeSlice::Short(edges.as_slice()),
+            Held::Full(edges) => EdgeSlice::Full(edges.as_slice()),
         }
     }
 

@@ -12,7 +12,7 @@ use crate::limits::MOST_TOTAL_SIZE;
 use omega_hoa_expression::{MOST_DEPTH, MOST_SIZE};
 use omega_hoa_label::RawLabel;
 use omega_hoa_label_text::{Aliases, Extent};
-use omega_hoa_syntax::{RawEdges, RawState};
+use omega_hoa_syntax::{EdgeSlice, RawEdge, RawEdges, RawState};
 use omega_text::Refusal;
 use std::alloc::Global;
 
@@ -113,7 +113,7 @@ fn findings_of_state(
     Ok(own.with(edges))
 }
 
-/// Finds the faults of the labels of `edges`.
+/// Finds the faults of the labels of `edges`. Edges in compact form have none.
 fn findings_of_edges(
     alloc: Global,
     edges: &RawEdges,
@@ -124,10 +124,26 @@ fn findings_of_edges(
         (sum_by (λ edge. size_under aliases.now edge.label) edges.now)) }
     ensures err { IfErr result IsMemory }
 {
+    match edges.slice() {
+        EdgeSlice::Short(_edges) => Ok(Findings::none()),
+        EdgeSlice::Full(edges) => findings_of_full(alloc, edges, aliases),
+    }
+}
+
+/// Finds the faults of the labels of edges that are kept as they are.
+fn findings_of_full(
+    alloc: Global,
+    edges: &[RawEdge],
+    aliases: &Aliases,
+) -> Result<Findings, Refusal>
+    ensures ok { IfOk result (AreFound (λ test. list_any
+        (λ edge. passes (λ label. test (expansion aliases.now label)) edge.label) edges.now)
+        (sum_by (λ edge. size_under aliases.now edge.label) edges.now)) }
+    ensures err { IfErr result IsMemory }
+{
     let mut found = Findings::none();
-    for at in 0..edges.len() {
-        let edge = edges.edge(at);
-        let more = findings_of_label(alloc, edge.label(), aliases)?;
+    for edge in edges {
+        let more = findings_of_label(alloc, edge.label.as_ref(), aliases)?;
         found = found.with(more);
     }
     Ok(found)

@@ -11,7 +11,7 @@ use crate::edges::Edges;
 use crate::making::marks::marks_of;
 use crate::state::State;
 use omega_hoa_label::{Label, RawLabel};
-use omega_hoa_label_text::{Aliases, expand_in_place};
+use omega_hoa_label_text::{Aliases, expand_faultless};
 use omega_hoa_syntax::{HeldEdges, RawEdge, RawEdges, RawState};
 use omega_text::{Refusal, Seq};
 use std::alloc::Global;
@@ -136,5 +136,5 @@ fn sound_label(alloc: Global, aliases: &Aliases, label: RawLabel) -> Result<Labe
     ensures ok { IfOk result (λ made. IsExpansion aliases.now label made) }
     ensures err { IfErr result IsMemory }
 {
-    expand_in_place(alloc, label, aliases)
+    expand_faultless(alloc, label, aliases)
 }

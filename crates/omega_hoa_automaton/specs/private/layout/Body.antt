@@ -1,9 +1,11 @@
 -- The faults of a written automaton's body that are found without memory, in one walk over its states and their edges.
-use Rattle.std.specs.Prelude.{◌≡◌, List, nat_le, not}
+use Rattle.std.specs.Prelude.{◌≡◌, List, false, nat_le, not}
 use Rattle.std.specs.List.{list_any}
 use Rattle.omega_hoa_syntax.specs.declared.raw_automaton.RawAutomaton.{RawAutomaton}
 use Rattle.omega_hoa_syntax.specs.declared.raw_edge.RawEdge.{RawEdge}
+use Rattle.omega_hoa_syntax.specs.Edges.{lengthened}
 use Rattle.omega_hoa_syntax.specs.declared.raw_state.RawState.{RawState}
+use Rattle.omega_hoa_syntax.specs.declared.short_edge.ShortEdge.{ShortEdge}
 use Rattle.omega_hoa_automaton.specs.Faults.{are_out_of_range, has_label, is_beyond, is_labelled}
 use Rattle.omega_hoa_automaton.specs.Faults.{is_marked, is_miscounted, is_mixed, is_out_of_range}
 use Rattle.omega_hoa_automaton.specs.Faults.{passes, proposition_count, set_count, state_count}
@@ -25,6 +27,16 @@ pub record IsFoundOfEdges (counts : Counts) (edges : List RawEdge) (found : Edge
       ≡ list_any (λ edge. passes (is_beyond counts.propositions) edge.label) edges
   pub labelled : found.labelled ≡ list_any has_label edges
   pub unlabelled : found.unlabelled ≡ list_any (λ edge. not (has_label edge)) edges
+
+-- the same of edges in compact form
+pub record IsFoundOfShort (counts : Counts) (edges : List ShortEdge) (found : EdgesFound) : Type 0 where
+  pub target : found.target
+      ≡ list_any (λ edge. are_out_of_range counts.states (lengthened edge).targets) edges
+  pub mark : found.mark
+      ≡ list_any (λ edge. passes (list_any (nat_le counts.sets)) (lengthened edge).marks) edges
+  pub proposition : found.proposition ≡ false
+  pub labelled : found.labelled ≡ false
+  pub unlabelled : found.unlabelled ≡ list_any (λ edge. not (has_label (lengthened edge))) edges
 
 -- what is found of a state and its edges, under counts
 pub record IsFoundOfState (counts : Counts) (one : RawState) (found : BodyFound) : Type 0 where

@@ -10,21 +10,21 @@ use Rattle.omega_hoa_label_text.proofs.expansion.replace_aliases.Goals as goal
 pub emit-requires-clause-defined : goal.emit-requires-clause-defined
 emit-requires-clause-defined c =
     subst (λ entries. IsSome (replaced entries c.args.raw.now)) (sym (take-entries_of c.args.aliases.now c.len.result c.len.ensures))
-    (sound-some (expansion c.args.aliases.now c.args.raw.now) c.requires.sound)
+    (sound-some (expansion c.args.aliases.now c.args.raw.now) c.requires)
 
 pub from_postfix-requires : goal.from_postfix-requires
 from_postfix-requires c =
-    IsLabel-sound (expansion c.args.aliases.now c.args.raw.now) _ c.requires.sound
+    IsLabel-sound (expansion c.args.aliases.now c.args.raw.now) _ c.requires
     (shallow-replaced (entries_of [] c.args.aliases.now) (shallow-entries [] c.args.aliases.now tt) c.args.raw.now)
-    (c.in_ok-emit.ensures.ok
+    (c.shrink_to_fit.ensures.items ∙ (c.in_ok-emit.ensures.ok
     ∙ (ap (λ front. front ++ nodes_of (replaced (take c.len.result (entries_of [] c.args.aliases.now)) c.args.raw.now)) c.in_ok-nodes.ensures.items
-    ∙ ap (λ entries. nodes_of (replaced entries c.args.raw.now)) (take-entries_of c.args.aliases.now c.len.result c.len.ensures)))
+    ∙ ap (λ entries. nodes_of (replaced entries c.args.raw.now)) (take-entries_of c.args.aliases.now c.len.result c.len.ensures))))
 
 pub returns-clause-ok : goal.returns-clause-ok
 returns-clause-ok c =
     IfOk-weaker _ _ _
-    (expansion-made c.args.aliases.now c.args.raw.now _ c.requires.sound
-    (c.in_ok-emit.ensures.ok
+    (expansion-made c.args.aliases.now c.args.raw.now _ c.requires
+    (c.shrink_to_fit.ensures.items ∙ (c.in_ok-emit.ensures.ok
     ∙ (ap (λ front. front ++ nodes_of (replaced (take c.len.result (entries_of [] c.args.aliases.now)) c.args.raw.now)) c.in_ok-nodes.ensures.items
-    ∙ ap (λ entries. nodes_of (replaced entries c.args.raw.now)) (take-entries_of c.args.aliases.now c.len.result c.len.ensures))))
+    ∙ ap (λ entries. nodes_of (replaced entries c.args.raw.now)) (take-entries_of c.args.aliases.now c.len.result c.len.ensures)))))
     c.from_postfix.ensures.ok
