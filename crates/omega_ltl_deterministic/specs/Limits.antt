@@ -1,9 +1,9 @@
 -- The limits of candidates, in numbers.
 use Rattle.std.specs.Prelude.{ℕ}
 
--- the most colours
-abbrev pub most_colours : ℕ
-most_colours = 128
+-- the most sets of marks, one for each colour
+abbrev pub most_parity_sets : ℕ
+most_parity_sets = 128
 
 -- the most conjunctions of literals of a label
 abbrev pub most_cubes : ℕ

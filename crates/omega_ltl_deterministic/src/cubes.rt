@@ -22,7 +22,7 @@ pub(crate) fn cubes_of(alloc: Global, letters: &[u64], names: u32) -> Result<Vec
 {
     let all = all_letters(alloc, names)?;
     // Bits of no letter may be covered.
-    let upper = united(alloc, letters, all.as_slice())?;
+    let upper = with_unused_bits(alloc, letters, all.as_slice())?;
     let mut cubes = Vec::new(alloc);
     cover_table(
         alloc,
@@ -36,7 +36,7 @@ pub(crate) fn cubes_of(alloc: Global, letters: &[u64], names: u32) -> Result<Vec
 }
 
 /// Returns the letters of a table, and all bits that are in no letter of `all`.
-fn united(alloc: Global, letters: &[u64], all: &[u64]) -> Result<Vec<u64>, AllocError> {
+fn with_unused_bits(alloc: Global, letters: &[u64], all: &[u64]) -> Result<Vec<u64>, AllocError> {
     let mut words = Vec::with_capacity(alloc, letters.len())?;
     for (word, every) in letters.iter().zip(all) {
         words.push(*word | !*every)?;
@@ -77,18 +77,18 @@ fn cover_table(
     let name = names - 1;
     let (low, high) = halves(lower);
     let (low_upper, high_upper) = halves(upper);
-    let needed = without(alloc, low, high_upper)?;
+    let needed = letters_without(alloc, low, high_upper)?;
     let literal = path.with(name, true);
     let low_cover = cover_table(alloc, needed.as_slice(), low_upper, name, literal, cubes)?;
-    let needed = without(alloc, high, low_upper)?;
+    let needed = letters_without(alloc, high, low_upper)?;
     let literal = path.with(name, false);
     let high_cover = cover_table(alloc, needed.as_slice(), high_upper, name, literal, cubes)?;
-    let mut left = without(alloc, low, low_cover.as_slice())?;
-    let more = without(alloc, high, high_cover.as_slice())?;
+    let mut left = letters_without(alloc, low, low_cover.as_slice())?;
+    let more = letters_without(alloc, high, high_cover.as_slice())?;
     unite(&mut left, more.as_slice());
-    let both = common(alloc, low_upper, high_upper)?;
+    let both = common_letters(alloc, low_upper, high_upper)?;
     let cover = cover_table(alloc, left.as_slice(), both.as_slice(), name, path, cubes)?;
-    Ok(joined(
+    Ok(table_of_halves(
         alloc,
         low_cover.as_slice(),
         high_cover.as_slice(),
@@ -164,7 +164,7 @@ fn word_halves(word: u64, name: u32) -> (u64, u64)
 }
 
 /// Returns the letters of one table that are not in another.
-fn without(alloc: Global, one: &[u64], other: &[u64]) -> Result<Vec<u64>, AllocError> {
+fn letters_without(alloc: Global, one: &[u64], other: &[u64]) -> Result<Vec<u64>, AllocError> {
     let mut words = Vec::with_capacity(alloc, one.len())?;
     for (word, more) in one.iter().zip(other) {
         words.push(*word & !*more)?;
@@ -173,7 +173,7 @@ fn without(alloc: Global, one: &[u64], other: &[u64]) -> Result<Vec<u64>, AllocE
 }
 
 /// Returns the letters of both tables.
-fn common(alloc: Global, one: &[u64], other: &[u64]) -> Result<Vec<u64>, AllocError> {
+fn common_letters(alloc: Global, one: &[u64], other: &[u64]) -> Result<Vec<u64>, AllocError> {
     let mut words = Vec::with_capacity(alloc, one.len())?;
     for (word, more) in one.iter().zip(other) {
         words.push(*word & *more)?;
@@ -189,7 +189,12 @@ fn unite(one: &mut Vec<u64>, other: &[u64]) {
 }
 
 /// Returns the table with these halves, to each of which the letters of `both` are added.
-fn joined(alloc: Global, low: &[u64], high: &[u64], both: &[u64]) -> Result<Vec<u64>, AllocError> {
+fn table_of_halves(
+    alloc: Global,
+    low: &[u64],
+    high: &[u64],
+    both: &[u64],
+) -> Result<Vec<u64>, AllocError> {
     let mut words = Vec::with_capacity(alloc, low.len().saturating_mul(2))?;
     for (word, more) in low.iter().zip(both) {
         words.push(*word | *more)?;

@@ -7,7 +7,7 @@ use crate::acceptance::{parity_formula, parity_name};
 use crate::cubes::cubes_of;
 use crate::judging::is_candidate;
 use crate::labels::{label_of, size_of};
-use crate::limits::MOST_COLOURS;
+use crate::limits::MOST_PARITY_SETS;
 use omega_graph_search::number_of;
 use omega_hoa_automaton::{Automaton, MOST_TOTAL_SIZE, RawAutomaton, StateName, automaton_of};
 use omega_hoa_expression::MOST_SIZE;
@@ -18,7 +18,7 @@ use omega_text::{ByteString, Marks, Numbers, Refusal, Seq, TaskFault, copy_of_st
 use std::alloc::Global;
 
 /// Returns an automaton with these propositions as one of the Hanoi format, with a mark for each colour. Fails with
-/// [`TaskFault::TooLarge`] if it has over [`MOST_COLOURS`] colours, or if labels pass their limits.
+/// [`TaskFault::TooLarge`] if it has over [`MOST_PARITY_SETS`] colours, or if labels pass their limits.
 pub(crate) fn automaton_over(
     alloc: Global,
     automaton: &DeterministicAutomaton,
@@ -27,7 +27,7 @@ pub(crate) fn automaton_over(
     ensures candidate { IfOk result (IsCandidate propositions.now) }
     ensures err { IfErr result IsLarge }
 {
-    match formed(alloc, automaton, propositions) {
+    match automaton_as_written(alloc, automaton, propositions) {
         Ok(formed) => {
             // No automaton comes out otherwise.
             if is_candidate(&formed, propositions) {
@@ -51,13 +51,13 @@ fn as_too_large(refusal: Refusal) -> Refusal
 }
 
 /// Returns an automaton with these propositions as one of the Hanoi format.
-fn formed(
+fn automaton_as_written(
     alloc: Global,
     automaton: &DeterministicAutomaton,
     propositions: &[ByteString],
 ) -> Result<Automaton, Refusal> {
     let colours = colour_count(automaton);
-    if colours > MOST_COLOURS {
+    if colours > MOST_PARITY_SETS {
         return Err(Refusal::Task(TaskFault::TooLarge));
     }
     let items = header(alloc, automaton, propositions, colours)?;

@@ -28,11 +28,11 @@ pub(crate) fn leaf_formula(
         When::Always => copy.unary(UnaryOperator::Globally, root)?,
         When::Sometime => copy.unary(UnaryOperator::Finally, root)?,
     };
-    finished(alloc, copy, root)
+    formula_of_table(alloc, copy, root)
 }
 
 /// Returns the formula of a table with this root. Fails with [`TaskFault::TooLarge`] if it passes a limit of formulas.
-fn finished(alloc: Global, table: FormulaBuilder, root: usize) -> Result<Formula, Refusal>
+fn formula_of_table(alloc: Global, table: FormulaBuilder, root: usize) -> Result<Formula, Refusal>
     requires { root < length table.nodes }
     ensures { IfErr result IsLarge }
 {

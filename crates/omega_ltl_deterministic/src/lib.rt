@@ -24,7 +24,7 @@ mod tests;
 mod words;
 
 pub use candidate::deterministic_candidate;
-pub use limits::{MOST_COLOURS, MOST_CUBES, candidate_limits_are_stated};
+pub use limits::{MOST_CUBES, MOST_PARITY_SETS, candidate_limits_are_stated};
 pub use omega_hoa_automaton::Automaton;
 pub use omega_ltl_formula::Formula;
 pub use omega_text::Refusal;

@@ -1,5 +1,6 @@
 ghost use Rattle.std.specs.Prelude.{◌≡◌, ◌+◌, ◌-◌, ◌^◌, length, min};
-ghost use Rattle.omega_ltl_determinization.specs.Reading.{colour_at, first_edge, letters_at, target_at, width_of};
+ghost use Rattle.omega_ltl_determinization.specs.Reading.{colour_at, first_edge, letters_at, target_at};
+ghost use Rattle.omega_ltl_determinization.specs.Reading.{width_of};
 
 use omega_graph_search::{NONE, number_of};
 use omega_text::Seq;

@@ -1,4 +1,5 @@
-ghost use Rattle.std.specs.Prelude.{◌≡◌, ◌++◌, ◌∷◌, ◌-◌, ◌^◌, [], length, min, replicate, slice_index_or, slice_set, OnErr, OnOk};
+ghost use Rattle.std.specs.Prelude.{◌≡◌, ◌++◌, ◌∷◌, ◌-◌, ◌^◌, [], length, min, replicate, slice_index_or};
+ghost use Rattle.std.specs.Prelude.{slice_set, OnErr, OnOk};
 
 use omega_graph_search::{NONE, number_of};
 use std::alloc::{AllocError, Global};
