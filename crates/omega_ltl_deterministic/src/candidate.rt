@@ -2,12 +2,13 @@ ghost use Rattle.std.specs.Prelude.{IfErr, IfOk};
 ghost use Rattle.omega_ltl_determinization.specs.Refusing.{IsLarge};
 ghost use Rattle.omega_ltl_deterministic.specs.Candidate.{IsCandidate};
 
+use crate::completion::complete_automaton;
 use crate::forming::automaton_over;
 use crate::leaves::leaves_of;
 use crate::parts::parts_of;
 use omega_graph_search::number_of;
 use omega_hoa_automaton::Automaton;
-use omega_ltl_determinization::MOST_NAMES;
+use omega_ltl_determinization::{DeterministicAutomaton, MOST_NAMES};
 use omega_ltl_formula::Formula;
 use omega_ltl_parity_product::product;
 use omega_text::{Refusal, TaskFault};
@@ -31,17 +32,39 @@ pub fn deterministic_candidate(alloc: Global, formula: &Formula) -> Result<Autom
     ensures candidate { IfOk result (IsCandidate formula.now.table.names) }
     ensures err { IfErr result IsLarge }
 {
+    let found = product_of_parts(alloc, formula)?;
+    automaton_over(alloc, &found, formula.names())
+}
+
+/// Returns an automaton as [deterministic_candidate] does, but in each state there is to be an edge for each letter, so
+/// that whoever plays on it can always go on. Where letters have none it leads to a sink, which rejects. That each
+/// letter has an edge is not proved.
+///
+/// Fails as [deterministic_candidate] does, and also with [`TaskFault::TooLarge`] if the sink is a state too many.
+pub fn complete_candidate(alloc: Global, formula: &Formula) -> Result<Automaton, Refusal>
+    ensures candidate { IfOk result (IsCandidate formula.now.table.names) }
+    ensures err { IfErr result IsLarge }
+{
+    let found = product_of_parts(alloc, formula)?;
+    let complete = complete_automaton(alloc, found)?;
+    automaton_over(alloc, &complete, formula.names())
+}
+
+/// Returns a deterministic automaton of a formula as flat arrays: the product of its parts. Fails as
+/// [deterministic_candidate] does up to its labels.
+fn product_of_parts(alloc: Global, formula: &Formula) -> Result<DeterministicAutomaton, Refusal>
+    ensures { IfErr result IsLarge }
+{
     let names = number_of(formula.names().len());
     if names > MOST_NAMES {
         return Err(Refusal::Task(TaskFault::TooLarge));
     }
     let parts = parts_of(alloc, formula)?;
     let leaves = leaves_of(alloc, formula, parts.leaves.as_slice())?;
-    let found = product(
+    product(
         alloc,
         names,
         leaves.as_slice(),
         parts.combination.as_slice(),
-    )?;
-    automaton_over(alloc, &found, formula.names())
+    )
 }

@@ -2,11 +2,12 @@
 //! ends, keeps its limits and returns an automaton of the promised form. Which words it accepts is judged by its user.
 //!
 //! [deterministic_candidate] takes a formula apart into its maximal temporal parts, makes each of them deterministic,
-//! and puts them together again by their product.
+//! and puts them together again by their product. [complete_candidate] adds a sink where letters have no edge.
 #![tactic(auto)]
 
 mod acceptance;
 mod candidate;
+mod completion;
 mod cubes;
 mod demand_graph;
 mod forming;
@@ -23,7 +24,7 @@ mod state_edges;
 mod tests;
 mod words;
 
-pub use candidate::deterministic_candidate;
+pub use candidate::{complete_candidate, deterministic_candidate};
 pub use limits::{MOST_CUBES, MOST_PARITY_SETS, candidate_limits_are_stated};
 pub use omega_hoa_automaton::Automaton;
 pub use omega_ltl_formula::Formula;

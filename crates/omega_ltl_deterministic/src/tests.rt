@@ -1,6 +1,6 @@
 //! Formulas, how many states their automata have, and words.
-use crate::{Automaton, Refusal, deterministic_candidate};
-use omega_hoa_automaton::EdgeRef;
+use crate::{Automaton, Formula, Refusal, complete_candidate, deterministic_candidate};
+use omega_hoa_automaton::{EdgeRef, State};
 use omega_hoa_label::{Label, LabelNode, ROOM};
 use omega_ltl_text::read_formula;
 use omega_text::TaskFault;
@@ -10,17 +10,19 @@ use std::test::Fail;
 /// The stem and the cycle of a word, and whether it satisfies the formula. Bit i of a letter is the name i.
 type WordRow = (&'static [u32], &'static [u32], bool);
 
-/// A formula, how many states its automaton has, and words.
-type FormulaRow = (&'static str, u32, &'static [WordRow]);
+/// A formula, how many states its automaton has, how many with an edge for each letter, and words.
+type FormulaRow = (&'static str, u32, u32, &'static [WordRow]);
 
-// The numbers of states of the last rows are those of the lists in which the formulas stand: which clients wait and for
-// which of them the automaton waits, and for which of six recurrences and a response it does.
+// There is one state more where some letter has no edge: where the formula cannot be satisfied any more. The numbers of
+// states of the last rows are those of the lists in which the formulas stand: which clients wait and for which of them
+// the automaton waits, and for which of six recurrences and a response it does.
 const FORMULAS: [FormulaRow; 10] = [
-    ("1", 1, &[(&[], &[0], true)]),
-    ("0", 1, &[(&[], &[0], false)]),
+    ("1", 1, 1, &[(&[], &[0], true)]),
+    ("0", 1, 2, &[(&[], &[0], false)]),
     (
         "a U b",
         2,
+        3,
         &[
             (&[1, 1, 2], &[0], true),
             (&[3], &[0, 1], true),
@@ -31,6 +33,7 @@ const FORMULAS: [FormulaRow; 10] = [
     (
         "G(p -> F q)",
         2,
+        2,
         &[
             (&[], &[1, 0, 2], true),
             (&[2, 1], &[0], false),
@@ -40,10 +43,12 @@ const FORMULAS: [FormulaRow; 10] = [
     (
         "F G a",
         1,
+        1,
         &[(&[0, 1, 0], &[1, 1], true), (&[], &[0, 1], false)],
     ),
     (
         "G F a & G F b",
+        2,
         2,
         &[(&[], &[1, 2], true), (&[3, 3], &[2, 0], false)],
     ),
@@ -51,6 +56,7 @@ const FORMULAS: [FormulaRow; 10] = [
     (
         "X a <-> a",
         4,
+        5,
         &[
             (&[1, 1], &[0], true),
             (&[0, 0], &[1], true),
@@ -62,6 +68,7 @@ const FORMULAS: [FormulaRow; 10] = [
     (
         "F(a | X b) xor !G !(b & a)",
         3,
+        4,
         &[
             (&[1], &[0], true),
             (&[], &[0], false),
@@ -73,6 +80,7 @@ const FORMULAS: [FormulaRow; 10] = [
     (
         "G(r -> F g) & G(s -> F h) & G !(g & h)",
         8,
+        9,
         &[
             (&[5, 2, 8], &[0], true),
             (&[5, 2], &[0], false),
@@ -82,6 +90,7 @@ const FORMULAS: [FormulaRow; 10] = [
     ),
     (
         "G F a & G F b & G F c & G F d & G F e & G F f -> G(q -> F r)",
+        7,
         7,
         &[],
     ),
@@ -168,21 +177,53 @@ fn accepts(automaton: &Automaton, word: &WordRow) -> bool {
     place.state.is_some() && place.least % 2 == 0
 }
 
-/// Whether an automaton has as many states as a row says, and judges its words.
-fn is_as_said(automaton: &Automaton, row: &FormulaRow) -> bool {
-    automaton.state_count() == row.1 && row.2.iter().all(|word| accepts(automaton, word) == word.2)
+/// Whether an automaton has so many states, and judges words as they are said to be.
+fn is_as_said(automaton: &Automaton, states: u32, words: &[WordRow]) -> bool {
+    automaton.state_count() == states && words.iter().all(|word| accepts(automaton, word) == word.2)
 }
 
-/// Returns the automaton of a formula.
-fn automaton_of_text(alloc: Global, text: &str) -> Result<Automaton, Refusal> {
-    let formula = read_formula(alloc, text.as_bytes())?;
-    deterministic_candidate(alloc, &formula)
+/// Returns how many edges of a state can be taken at a letter.
+fn edges_at(state: &State, letter: u32) -> usize {
+    let mut count = 0usize;
+    for at in 0..state.edges.len() {
+        if let Some(label) = state.edges.edge(at).label() {
+            if is_true(label, letter) {
+                count = count.saturating_add(1);
+            }
+        }
+    }
+    count
 }
 
-/// Whether the automaton of a row is as it says.
+/// Whether each state has one edge for each letter over `names` names.
+fn is_complete(automaton: &Automaton, names: usize) -> bool {
+    for state in automaton.defined() {
+        for letter in 0..1u32 << names.min(16) {
+            if edges_at(state, letter) != 1 {
+                return false;
+            }
+        }
+    }
+    true
+}
+
+/// Returns the formula of a text.
+fn formula_of(alloc: Global, text: &str) -> Result<Formula, Refusal> {
+    read_formula(alloc, text.as_bytes())
+}
+
+/// Whether the automata of a row are as it says.
 fn is_row_as_said(alloc: Global, row: &FormulaRow) -> Result<bool, Refusal> {
-    let automaton = automaton_of_text(alloc, row.0)?;
-    Ok(is_as_said(&automaton, row))
+    let formula = formula_of(alloc, row.0)?;
+    let automaton = deterministic_candidate(alloc, &formula)?;
+    let complete = complete_candidate(alloc, &formula)?;
+    let names = formula.names().len();
+    Ok(
+        is_as_said(&automaton, row.1, row.3)
+            && is_as_said(&complete, row.2, row.3)
+            && is_complete(&complete, names)
+            && is_complete(&automaton, names) == (row.1 == row.2),
+    )
 }
 
 #[test]
@@ -199,11 +240,22 @@ const LARGE: [&str; 2] = [
     "G(a | b | c | d | e | f | g | h | i | j | k | l | m)",
 ];
 
-/// Whether a formula is refused as too large.
-fn is_refused(alloc: Global, text: &str) -> bool {
-    match automaton_of_text(alloc, text) {
+/// Whether an automaton is refused as too large.
+fn is_too_large(made: Result<Automaton, Refusal>) -> bool {
+    match made {
         Ok(_) => false,
         Err(refusal) => refusal == Refusal::Task(TaskFault::TooLarge),
+    }
+}
+
+/// Whether both automata of a formula are refused as too large.
+fn is_refused(alloc: Global, text: &str) -> bool {
+    match formula_of(alloc, text) {
+        Ok(formula) => {
+            is_too_large(deterministic_candidate(alloc, &formula))
+                && is_too_large(complete_candidate(alloc, &formula))
+        }
+        Err(_) => false,
     }
 }
 
