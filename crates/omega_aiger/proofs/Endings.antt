@@ -12,10 +12,11 @@ use Rattle.omega_circuit.specs.declared.parts.CircuitParts.{CircuitParts}
 use Rattle.omega_circuit.specs.declared.symbol.Symbol.{Symbol}
 use Rattle.omega_circuit.specs.declared.symbol.SymbolKind.{SymbolKind}
 use Rattle.omega_circuit.specs.declared.symbol.SymbolKind.TheVariants.{Bad, Constraint, Fairness, Input, Justice, Latch, Output}
+use Rattle.omega_text.specs.Limits.{most_text}
 use Rattle.omega_text.specs.declared.refusal.text.TextFault.TheVariants.{Syntax}
 
 -- there are more symbols to come than were read
-pub symbols_left : (count : ℕ) → count ≤ 16777216 → most_symbols - count ≡ suc (most_symbols - (count + 1))
+pub symbols_left : (count : ℕ) → count ≤ most_text → most_symbols - count ≡ suc (most_symbols - (count + 1))
 unfolding most_symbols
 symbols_left count few = omega (arith, few)
 
@@ -78,6 +79,6 @@ module _ (text : List ℕ) (at : ℕ) (within : at < length text) where
       ∙ feed (rest parts) (symbol_end Constraint next)
 
 -- one symbol more may follow
-pub one_symbol : (text : List ℕ) (at : ℕ) (read : List Symbol) (made : List Symbol → CircuitParts) → length read ≤ 16777216
+pub one_symbol : (text : List ℕ) (at : ℕ) (read : List Symbol) (made : List Symbol → CircuitParts) → length read ≤ most_text
     → GoesOn text at (symbols_then (most_symbols - length read) read made) at (ending (λ symbol. symbols_then (most_symbols - (length read + 1)) (read ++ symbol ∷ []) made) (made read))
 one_symbol text at read made few = ap (λ m. outcome (symbols_then m read made) at (drop at text)) (symbols_left (length read) few)

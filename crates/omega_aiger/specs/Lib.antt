@@ -1,6 +1,7 @@
 -- Circuits as texts: what contracts cite.
 pub use Rattle.omega_circuit.specs.Circuit
 pub use Rattle.omega_circuit.specs.Faults
+pub mod Beginnings
 pub mod Deltas
 pub mod Layout
 pub mod Lines

@@ -1,4 +1,4 @@
--- Which circuit a text says, and which refusal it meets.
+-- Which circuit a text says, and which refusal it meets. Places and the limit count all bytes.
 use Rattle.std.specs.Prelude.{◌<◌, ◌≤◌, ℕ, List, length}
 use Rattle.omega_aiger.specs.Forms.{circuit_layout}
 use Rattle.omega_aiger.specs.Layout.{HasNoNumberAt, IsWrongAt, Spells}
@@ -12,7 +12,7 @@ use Rattle.omega_text.specs.declared.refusal.circuit.CircuitFault.{CircuitFault}
 use Rattle.omega_text.specs.declared.refusal.text.TextFault.{TextFault}
 use Rattle.omega_text.specs.declared.refusal.text.TextFault.TheVariants.{Lex, Number, Syntax, TooLong}
 
--- the text is within its limit and says these parts
+-- the text, perhaps after a first line `REALIZABLE`, says these parts, and is within its limit
 pub record IsPartsText (text : List ℕ) (parts : CircuitParts) : Type 0 where
   pub short : length text ≤ most_text
   pub spells : Spells circuit_layout text parts

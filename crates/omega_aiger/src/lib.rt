@@ -5,6 +5,7 @@
 #![tactic(auto)]
 
 mod ascii;
+mod beginning;
 mod binary;
 mod delta;
 mod header;
@@ -18,5 +19,6 @@ mod symbols;
 mod tests;
 mod writing;
 
+pub use beginning::begins_as_circuit;
 pub use reading::read_aiger;
 pub use writing::aag_text;

@@ -5,6 +5,7 @@ ghost use Rattle.omega_aiger.specs.Forms.{properties_then};
 ghost use Rattle.omega_aiger.specs.Layout.{Layout};
 ghost use Rattle.omega_aiger.specs.private.Outcome.{GoesOn, Stops};
 ghost use Rattle.omega_circuit.specs.declared.properties.Properties.{Properties};
+ghost use Rattle.omega_text.specs.Limits.{most_text};
 
 use crate::ascii::numbers_at;
 use omega_circuit::Properties;
@@ -19,7 +20,7 @@ pub(crate) fn properties_at(
     counts: &[u32],
 ) -> Result<(Properties, usize), Refusal>
     requires at { at ≤ length text.now }
-    requires short { length text.now ≤ 16777216 }
+    requires short { length text.now ≤ most_text }
     ensures within { IfOk result (λ found. found.1 ≤ length text.now) }
     ensures read { IfOk result (λ found. (next : Properties → Layout)
         → GoesOn text.now at (properties_then counts.now next) found.1 (next found.0)) }
@@ -53,7 +54,7 @@ fn count_of(counts: &[u32], place: usize) -> u64
 
 /// Returns the sum of sizes, which are so few that it has a value.
 fn sum_of(sizes: &[u32]) -> u64
-    requires { length sizes.now ≤ 16777216 }
+    requires { length sizes.now ≤ most_text }
     ensures { result ≡ sum sizes.now }
 {
     let mut sum = 0u64;

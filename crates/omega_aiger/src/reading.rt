@@ -5,6 +5,7 @@ ghost use Rattle.omega_aiger.specs.Forms.{ascii_body, binary_body, circuit_layou
 ghost use Rattle.omega_aiger.specs.Text.{IsCircuitText, IsPartsText, IsReadCircuitRefusal};
 ghost use Rattle.omega_aiger.specs.private.Headers.{IsDense, header_counts};
 ghost use Rattle.omega_aiger.specs.private.Outcome.{Fails, GoesOn, Stops, outcome};
+ghost use Rattle.omega_text.specs.Limits.{most_text};
 
 use crate::header::{Form, Header, form_at, header_at};
 use crate::line::{end_of_bytes, next_is};
@@ -44,7 +45,7 @@ fn parts_of(alloc: Global, text: &[u8]) -> Result<CircuitParts, Refusal>
 
 /// Reads the parts of a text that is not too long.
 fn read_parts(alloc: Global, text: &[u8]) -> Result<CircuitParts, Refusal>
-    requires { length text.now ≤ 16777216 }
+    requires { length text.now ≤ most_text }
     ensures parts { IfOk result (λ parts. outcome circuit_layout 0 text.now ≡ Ok parts) }
     ensures fails { IfErr result (Fails text.now 0 circuit_layout) }
 {
@@ -77,7 +78,7 @@ fn ascii_parts(
     header: &Header,
 ) -> Result<CircuitParts, Refusal>
     requires at { at ≤ length text.now }
-    requires short { length text.now ≤ 16777216 }
+    requires short { length text.now ≤ most_text }
     ensures parts { IfOk result (λ parts.
         outcome (ascii_body (header_counts header.now)) at (drop at text.now) ≡ Ok parts) }
     ensures stops { IfErr result (Stops text.now at (ascii_body (header_counts header.now))) }
@@ -109,7 +110,7 @@ fn binary_parts(
     header: &Header,
 ) -> Result<CircuitParts, Refusal>
     requires at { at ≤ length text.now }
-    requires short { length text.now ≤ 16777216 }
+    requires short { length text.now ≤ most_text }
     ensures parts { IfOk result (λ parts.
         outcome (binary_body (header_counts header.now)) at (drop at text.now) ≡ Ok parts) }
     ensures fails { IfErr result (Fails text.now at (binary_body (header_counts header.now))) }

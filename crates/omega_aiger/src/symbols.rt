@@ -10,6 +10,7 @@ ghost use Rattle.omega_circuit.specs.Symbols.{kind_letter};
 ghost use Rattle.omega_circuit.specs.declared.parts.CircuitParts.{CircuitParts};
 ghost use Rattle.omega_circuit.specs.declared.symbol.Symbol.{Symbol};
 ghost use Rattle.omega_circuit.specs.declared.symbol.SymbolKind.{SymbolKind};
+ghost use Rattle.omega_text.specs.Limits.{most_text};
 
 use crate::line::{LINE_FEED, SPACE, count_in_line, next_is};
 use crate::number::number_before;
@@ -20,7 +21,7 @@ use std::alloc::Global;
 /// Reads symbols from the place `at` on, and then perhaps a comment, up to the end of the text.
 pub(crate) fn symbols_from(alloc: Global, text: &[u8], at: usize) -> Result<Vec<Symbol>, Refusal>
     requires at { at ≤ length text.now }
-    requires short { length text.now ≤ 16777216 }
+    requires short { length text.now ≤ most_text }
     ensures read { IfOk result (λ symbols. (made : List Symbol → CircuitParts)
         → outcome (symbols_then most_symbols [] made) at (drop at text.now) ≡ Ok (made symbols.items)) }
     ensures stops { IfErr result (λ refusal. (made : List Symbol → CircuitParts)

@@ -1,6 +1,6 @@
 //! Texts and the faults that they have, worked out by hand.
 
-use crate::{aag_text, read_aiger};
+use crate::{aag_text, begins_as_circuit, read_aiger};
 use omega_text::Refusal;
 use std::alloc::Global;
 use std::process::Abort;
@@ -23,9 +23,12 @@ fn place_of(refusal: Refusal) -> usize {
 
 #[test]
 fn faults_of_texts(rt: HostRuntime) {
-    let rows: [(&[u8], u32, usize); 26] = [
+    let rows: [(&[u8], u32, usize); 29] = [
         (b"aag 1 1 0 1 0\n2\n2\ni0 ask\no0 grant\n", 0, 0),
         (b"REALIZABLE\naag 1 1 0 1 0\n2\n2\n", 0, 0),
+        (b"REALIZABLE\naag 1 1 0 1 0\n02\n2\n", 2, 25),
+        (b"REALIZABLE\nREALIZABLE\naag 1 1 0 1 0\n2\n2\n", 3, 11),
+        (b"REALIZABLE\n", 3, 11),
         (b"UNREALIZABLE\n", 3, 0),
         (b"aag 0 0 0 1 0\n1\no0 grant\n", 0, 0),
         (b"aag 1 0 1 2 0\n2 3 1\n2\n3\n", 0, 0),
@@ -53,6 +56,25 @@ fn faults_of_texts(rt: HostRuntime) {
     ];
     for (row, (text, number, place)) in rows.iter().enumerate() {
         let holds = outcome(rt.alloc(), text) == (*number, *place);
+        assert!(rt; holds, "row {row}");
+    }
+}
+
+#[test]
+fn beginnings_of_texts(rt: HostRuntime) {
+    let rows: [(&[u8], bool); 9] = [
+        (b"aag 1 1 0 1 0\n2\n2\n", true),
+        (b"aig ", true),
+        (b"REALIZABLE\naag ", true),
+        (b"REALIZABLE\naig 0", true),
+        (b"REALIZABLE\nREALIZABLE\naag ", false),
+        (b"REALIZABLE\n", false),
+        (b"UNREALIZABLE\n", false),
+        (b"aag\n", false),
+        (b"HOA: v1\n", false),
+    ];
+    for (row, (text, begins)) in rows.iter().enumerate() {
+        let holds = begins_as_circuit(text) == *begins;
         assert!(rt; holds, "row {row}");
     }
 }
@@ -86,7 +108,7 @@ fn rounds_of_a_circuit(rt: HostRuntime) {
 }
 
 /// The text that is written for the circuit of a text; nothing if that is not read.
-fn written(alloc: Global, text: &[u8]) -> Option<Vec<u8>> {
+fn written_text(alloc: Global, text: &[u8]) -> Option<Vec<u8>> {
     let circuit = read_aiger(alloc, text).ok()?;
     aag_text(alloc, &circuit).ok()
 }
@@ -114,7 +136,7 @@ fn texts_that_are_written(rt: HostRuntime) {
         (b"REALIZABLE\naag 0 0 0 1 0\n1\n", b"aag 0 0 0 1 0\n1\n"),
     ];
     for (row, (text, wanted)) in rows.iter().enumerate() {
-        let holds = match written(rt.alloc(), text) {
+        let holds = match written_text(rt.alloc(), text) {
             Some(found) => found.as_slice() == *wanted,
             None => false,
         };
