@@ -16,4 +16,7 @@ pub mod Parts
 pub mod Greatest
 pub mod Spelled
 pub mod Readback
+pub mod BinarySpelled
+pub mod BinaryReadback
+pub mod BinaryWritten
 pub mod Made

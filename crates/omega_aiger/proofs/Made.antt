@@ -1,5 +1,5 @@
 -- What each text of the layout makes has: symbols that can be written.
-use Rattle.std.proofs.Common.{◌≡◌, inl, inr, ℕ, zero, suc, ◌+◌, ◌<◌, ◌≤◌, List, [], ◌∷◌, ◌++◌, All, length, refl, sym, ap, subst, arith}
+use Rattle.std.proofs.Common.{◌≡◌, inl, inr, ℕ, zero, suc, ◌+◌, ◌<◌, ◌≤◌, List, [], ◌∷◌, ◌++◌, All, length, refl, sym, ap, ◌∙◌, subst, arith}
 use Rattle.std.specs.Prelude.{codes, slice_index, sum}
 use Rattle.std.specs.List.{Contains}
 use Rattle.std.proofs.lemmas.List.{length_push}
@@ -9,6 +9,7 @@ use Rattle.omega_aiger.specs.Forms.{Counts, ascii_body, binary_body, circuit_lay
 use Rattle.omega_aiger.specs.Layout.{Layout, Spells, byte, delta, either, finish, line, number, rest}
 use Rattle.omega_aiger.specs.Lines.{bytes_then, gate_by, gate_deltas, gate_lines, gate_of, latch_lines, latch_of, next_lines, number_lines, reset_end}
 use Rattle.omega_aiger.specs.Symbols.{ending, symbol_end, symbol_of, symbols_then}
+use Rattle.omega_aiger.specs.BinaryText.{SameCircuitsAreWritable}
 use Rattle.omega_aiger.specs.Written.{IsWritable, ReadCircuitsAreWritable, ascii_text}
 use Rattle.omega_aiger.proofs.Spelled.{IsSmallSymbol}
 use Rattle.omega_circuit.specs.Circuit.{AreNamed, CircuitValue, IsCircuit, positions_of}
@@ -170,3 +171,24 @@ read_writable text c is short =
       outputs = has.outputs;
       short = subst (λ (x : CircuitValue). length (ascii_text x) ≤ most_text) is.makes.same short;
     })
+
+-- and so can circuits that mean the same
+pub same_writable : SameCircuitsAreWritable
+same_writable text c d is circuit same written short =
+    let has = made_has circuit_layout circuit_made text is.parts is.says.spells in
+    let without = is.makes.faultless OfProperties in
+    let named = is.makes.faultless OfSymbol in
+    let symbols : is.parts.symbols ≡ d.symbols = ap (λ (x : CircuitValue). x.symbols) (sym is.makes.same) ∙ same.symbols in
+    let outputs : length is.parts.outputs ≡ length d.outputs = ap (λ (x : CircuitValue). length x.outputs) (sym is.makes.same) ∙ same.outputs in
+    let no_positions : (kind : SymbolKind) → positions_of kind is.parts.symbols ≡ [] → positions_of kind d.symbols ≡ [] = λ kind none. ap (positions_of kind) (sym symbols) ∙ none in
+    record {
+      circuit = circuit;
+      names = subst (λ (l : List Symbol). All (λ (symbol : Symbol). Contains symbol.name 10 → ⊥) l) symbols (λ k d within. (has.symbols k d within).in_line);
+      positions = subst (λ (l : List Symbol). All (λ (symbol : Symbol). symbol.position ≤ most_number) l) symbols (λ k d within. (has.symbols k d within).own);
+      bad = no_positions Bad (not_there Bad is.parts.symbols (length is.parts.properties.bad) (ap (λ (xs : List ℕ). length xs) without.bad) named.bad);
+      constraints = no_positions Constraint (not_there Constraint is.parts.symbols (length is.parts.properties.constraints) (ap (λ (xs : List ℕ). length xs) without.constraints) named.constraints);
+      justice = no_positions Justice (not_there Justice is.parts.symbols (length is.parts.properties.justice_sizes) (ap (λ (xs : List ℕ). length xs) without.justice) named.justice);
+      fairness = no_positions Fairness (not_there Fairness is.parts.symbols (length is.parts.properties.fairness) (ap (λ (xs : List ℕ). length xs) without.fairness) named.fairness);
+      outputs = let o = has.outputs in omega (arith, o, outputs);
+      short = short;
+    }

@@ -18,7 +18,7 @@ use Rattle.omega_circuit.specs.declared.symbol.SymbolKind.TheVariants.{Bad, Cons
 use Rattle.omega_text.specs.Limits.{most_number}
 
 -- what holds of each item holds of the later ones
-later : {X : Type 0} (P : X → Type 0) (x : X) (xs : List X) → All P (x ∷ xs) → All P xs
+pub later : {X : Type 0} (P : X → Type 0) (x : X) (xs : List X) → All P (x ∷ xs) → All P xs
 later P x xs all k d within = all (suc k) d (omega (arith, within))
 
 pub numbers_spelled : (xs : List ℕ) → All (λ n. n ≤ most_number) xs → (read : List ℕ) (next : List ℕ → Layout) (back : List ℕ) (made : CircuitParts)
@@ -43,7 +43,7 @@ pub record IsSmallLatch (latch : Latch) : Type 0 where
   pub following : latch.next ≤ most_number
   pub first : latch.reset ≤ most_number
 
-reset_spelled : (reset : ℕ) → reset ≤ most_number → (next : ℕ → Layout) (back : List ℕ) (made : CircuitParts) → Spells (next reset) back made → Spells (reset_end next) (reset_text reset ++ back) made
+pub reset_spelled : (reset : ℕ) → reset ≤ most_number → (next : ℕ → Layout) (back : List ℕ) (made : CircuitParts) → Spells (next reset) back made → Spells (reset_end next) (reset_text reset ++ back) made
 reset_spelled reset small next back made is = ⊎_elim
     (λ none. inr (back, ap (λ (l : List ℕ). l ++ back) (yes (reset == 0) (10 ∷ []) (32 ∷ (decimal reset ++ 10 ∷ [])) none), subst (λ n. Spells (next n) back made) (eqb-true reset 0 none) is))
     (λ some. inl (

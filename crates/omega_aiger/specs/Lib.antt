@@ -1,4 +1,5 @@
 -- Circuits as texts: what contracts cite.
+pub use Rattle.omega_circuit.specs.Canonical
 pub use Rattle.omega_circuit.specs.Circuit
 pub use Rattle.omega_circuit.specs.Faults
 pub mod Beginnings
@@ -9,5 +10,6 @@ pub mod Symbols
 pub mod Forms
 pub mod Text
 pub mod Written
+pub mod BinaryText
 pub mod Laws
 pub mod private

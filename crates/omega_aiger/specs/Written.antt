@@ -64,7 +64,7 @@ ascii_text c = codes "aag" ++ (count_text (most_variable_of c) ++ (count_text (l
 
 -- a circuit whose text says it: no name has a line feed, no symbol is of a property, and numbers and the text are
 -- within their limits
-pub record IsWritable (c : CircuitValue) : Type 0 where
+pub record IsWritableAs (text : CircuitValue → List ℕ) (c : CircuitValue) : Type 0 where
   pub circuit : IsCircuit c
   pub names : All (λ (symbol : Symbol). Contains symbol.name 10 → ⊥) c.symbols
   pub positions : All (λ (symbol : Symbol). symbol.position ≤ most_number) c.symbols
@@ -73,7 +73,11 @@ pub record IsWritable (c : CircuitValue) : Type 0 where
   pub justice : positions_of Justice c.symbols ≡ []
   pub fairness : positions_of Fairness c.symbols ≡ []
   pub outputs : length c.outputs ≤ most_number
-  pub short : length (ascii_text c) ≤ most_text
+  pub short : length (text c) ≤ most_text
+
+-- the same of the ASCII form
+abbrev pub IsWritable : CircuitValue → Type 0
+IsWritable c = IsWritableAs ascii_text c
 
 -- the text that is written for a circuit says it
 abbrev pub WrittenCircuitsAreRead : Type 0

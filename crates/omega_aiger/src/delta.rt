@@ -9,7 +9,7 @@ ghost use Rattle.omega_aiger.specs.private.Outcome.{GoesOn, Stops};
 use omega_text::{Refusal, TextFault};
 
 /// The most bytes of a delta.
-const MOST_BYTES: usize = 5;
+pub(crate) const MOST_BYTES: usize = 5;
 
 /// Reads the delta at the place `at`. Returns it and the place after it.
 pub(crate) fn delta_at(text: &[u8], at: usize) -> Result<(u32, usize), Refusal>

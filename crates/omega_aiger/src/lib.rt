@@ -7,6 +7,7 @@
 mod ascii;
 mod beginning;
 mod binary;
+mod binary_writing;
 mod delta;
 mod header;
 pub mod laws;
@@ -20,5 +21,6 @@ mod tests;
 mod writing;
 
 pub use beginning::begins_as_circuit;
+pub use binary_writing::aig_text;
 pub use reading::read_aiger;
 pub use writing::aag_text;

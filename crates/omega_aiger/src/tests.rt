@@ -1,6 +1,7 @@
 //! Texts and the faults that they have, worked out by hand.
 
-use crate::{aag_text, begins_as_circuit, read_aiger};
+use crate::{aag_text, aig_text, begins_as_circuit, read_aiger};
+use omega_circuit::canonical_circuit;
 use omega_text::Refusal;
 use std::alloc::Global;
 use std::process::Abort;
@@ -142,4 +143,56 @@ fn texts_that_are_written(rt: HostRuntime) {
         };
         assert!(rt; holds, "row {row}");
     }
+}
+
+/// The texts of the canonical form of the circuit of a text, in the ASCII and in the binary form; nothing if that is
+/// not read.
+fn canonical_texts(alloc: Global, text: &[u8]) -> Option<(Vec<u8>, Vec<u8>)> {
+    let circuit = read_aiger(alloc, text).ok()?;
+    let canonical = canonical_circuit(alloc, &circuit).ok()?;
+    let ascii = aag_text(alloc, &canonical).ok()?;
+    let binary = aig_text(alloc, &canonical).ok()?;
+    Some((ascii, binary))
+}
+
+#[test]
+fn canonical_forms(rt: HostRuntime) {
+    let rows: [(&[u8], &[u8], &[u8]); 3] = [
+        // The first gate uses the second.
+        (
+            b"aag 9 2 0 1 2\n2\n4\n8\n8 6 2\n6 4 2\n",
+            b"aag 4 2 0 1 2\n2\n4\n8\n6 4 2\n8 6 2\n",
+            b"aig 4 2 0 1 2\n8\n\x02\x02\x02\x04",
+        ),
+        // The variables stand the other way round, and the lesser operand is first.
+        (
+            b"aag 3 1 1 1 1\n6\n4 2 1\n3\n2 7 4\ni0 ask\no0 grant\n",
+            b"aag 3 1 1 1 1\n2\n4 6 1\n7\n6 4 3\ni0 ask\no0 grant\n",
+            b"aig 3 1 1 1 1\n6 1\n7\n\x02\x01i0 ask\no0 grant\n",
+        ),
+        // It is in canonical form.
+        (
+            b"aag 3 1 1 1 1\n2\n4 7\n5\n6 5 3\n",
+            b"aag 3 1 1 1 1\n2\n4 7\n5\n6 5 3\n",
+            b"aig 3 1 1 1 1\n7\n5\n\x01\x02",
+        ),
+    ];
+    for (row, (text, ascii, binary)) in rows.iter().enumerate() {
+        let holds = match canonical_texts(rt.alloc(), text) {
+            Some((one, other)) => one.as_slice() == *ascii && other.as_slice() == *binary,
+            None => false,
+        };
+        assert!(rt; holds, "row {row}");
+    }
+}
+
+#[test]
+fn deltas_of_two_bytes(rt: HostRuntime) {
+    // The gate has the literal 142, and 140 is 12 + 128.
+    let text = b"aig 71 70 0 1 1\n142\n\x8c\x01\x02";
+    let holds = match canonical_texts(rt.alloc(), text) {
+        Some((_ascii, binary)) => binary.as_slice() == text.as_slice(),
+        None => false,
+    };
+    assert!(rt; holds);
 }

@@ -82,7 +82,7 @@ fn greatest_gate(gates: &[Gate]) -> u32
 }
 
 /// Appends a space and a count.
-fn write_count(count: u128, out: &mut Vec<u8>) -> Result<(), Refusal>
+pub(crate) fn write_count(count: u128, out: &mut Vec<u8>) -> Result<(), Refusal>
     ensures ok { OnOk result (out.new.items ≡ out.old.items ++ count_text count) }
     ensures memory { IsOkUnless result Refusal.Memory }
 {
@@ -101,7 +101,7 @@ fn write_before(number: u32, ender: u8, out: &mut Vec<u8>) -> Result<(), Refusal
 }
 
 /// Appends lines of numbers.
-fn write_numbers(numbers: &[u32], out: &mut Vec<u8>) -> Result<(), Refusal>
+pub(crate) fn write_numbers(numbers: &[u32], out: &mut Vec<u8>) -> Result<(), Refusal>
     ensures ok { OnOk result (out.new.items ≡ out.old.items ++ flat_map number_text numbers.now) }
     ensures memory { IsOkUnless result Refusal.Memory }
 {
@@ -133,7 +133,7 @@ fn write_latch(latch: Latch, out: &mut Vec<u8>) -> Result<(), Refusal>
 }
 
 /// Appends the end of a latch's line, with its reset if that is not 0.
-fn write_reset(reset: u32, out: &mut Vec<u8>) -> Result<(), Refusal>
+pub(crate) fn write_reset(reset: u32, out: &mut Vec<u8>) -> Result<(), Refusal>
     ensures ok { OnOk result (out.new.items ≡ out.old.items ++ reset_text reset) }
     ensures memory { IsOkUnless result Refusal.Memory }
 {
@@ -167,7 +167,7 @@ fn write_gate(gate: Gate, out: &mut Vec<u8>) -> Result<(), Refusal>
 }
 
 /// Appends lines of symbols.
-fn write_symbols(symbols: &[Symbol], out: &mut Vec<u8>) -> Result<(), Refusal>
+pub(crate) fn write_symbols(symbols: &[Symbol], out: &mut Vec<u8>) -> Result<(), Refusal>
     ensures ok { OnOk result (out.new.items ≡ out.old.items ++ flat_map symbol_text symbols.now) }
     ensures memory { IsOkUnless result Refusal.Memory }
 {

@@ -16,3 +16,8 @@ pub mod Ordered
 pub mod Evaluating
 pub mod Reading
 pub mod Rows
+pub mod DefinedLiterals
+pub mod Renumbering
+pub mod Canonicals
+pub mod Reordering
+pub mod Remaking

@@ -1,9 +1,9 @@
 -- Values that are made round by round are those of a run.
-use Rattle.std.proofs.Common.{◌≡◌, ℕ, zero, suc, ◌+◌, ◌/◌, ◌<◌, ◌==◌, All, Bool, true, false, not, cond, List, ◌∷◌, ◌++◌, length, map, get_or, refl, sym, ap, ◌∙◌, subst, arith, add-one}
+use Rattle.std.proofs.Common.{◌≡◌, ℕ, zero, suc, ◌+◌, ◌/◌, ◌<◌, ◌==◌, Bool, true, false, not, cond, List, ◌∷◌, ◌++◌, length, map, get_or, refl, sym, ap, ◌∙◌, subst, arith, add-one}
 use Rattle.std.proofs.lemmas.List.{get_or-map, get_or_default, get_or_append_left, length-map}
 use Rattle.omega_circuit.specs.Circuit.{CircuitValue, IsCircuit, defined_variables, is_even}
 use Rattle.omega_circuit.specs.Laws.{AreMadeInTurn, AreRun, HasRun, IsWordWith, ValuesAreRuns}
-use Rattle.omega_circuit.specs.Rounds.{HasLatches, IsCircuitRun, IsWordOf, first_latches, gate_value, literal_value}
+use Rattle.omega_circuit.specs.Rounds.{HasLatches, IsCircuitRun, IsWordOf, gate_value, literal_value}
 use Rattle.omega_circuit.specs.private.Numbers.{first_gate}
 use Rattle.omega_circuit.specs.private.Orders.{flag_at}
 use Rattle.omega_circuit.specs.declared.gate.Gate.{Gate}

@@ -1,7 +1,7 @@
 -- Which literals are used, and that their variables are defined.
-use Rattle.std.proofs.Common.{◌≡◌, ℕ, ◌+◌, ◌/◌, ◌<◌, List, All, length, map, get_or, ◌∙◌, arith, sym, subst}
+use Rattle.std.proofs.Common.{◌≡◌, ℕ, ◌/◌, ◌<◌, List, All, length, arith, sym, subst}
 use Rattle.std.specs.List.{Contains}
-use Rattle.std.proofs.lemmas.List.{get_or-map, get_or_default, length-map}
+use Rattle.std.proofs.lemmas.List.{get_or-map, length-map}
 use Rattle.omega_circuit.specs.Circuit.{defined_variables}
 use Rattle.omega_circuit.specs.Faults.{AllOfProperties, AreUsesDefined, value_of}
 use Rattle.omega_circuit.specs.private.Numbers.{next_literals}

@@ -4,6 +4,7 @@ pub mod Limits
 pub mod Symbols
 pub mod Circuit
 pub mod Rounds
+pub mod Canonical
 pub mod Faults
 pub mod Laws
 pub mod private

@@ -2,4 +2,5 @@
 pub mod Numbers
 pub mod Orders
 pub mod Steps
+pub mod Renumbered
 pub mod Wires

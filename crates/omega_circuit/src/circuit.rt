@@ -1,14 +1,17 @@
 //! A circuit, and how it is made.
 
 ghost use Rattle.std.specs.Prelude.{◌≡◌, IfErr, IfOk};
+ghost use Rattle.omega_circuit.specs.Canonical.{IsCanonicalCircuit};
+ghost use Rattle.omega_circuit.specs.Circuit.{IsCircuit};
 ghost use Rattle.omega_circuit.specs.Faults.{IsCircuitOf, IsCircuitRefusal};
+ghost use Rattle.omega_circuit.specs.private.Steps.{circuit_with};
 
 use crate::gate::Gate;
-use crate::judging::ordered_wires;
+use crate::judging::{next_literals, ordered_wires};
 use crate::latch::Latch;
 use crate::parts::CircuitParts;
 use crate::symbol::Symbol;
-use crate::wiring::Wires;
+use crate::wiring::{Reads, Wires};
 use omega_text::{Refusal, Seq};
 use std::alloc::{AllocError, Global};
 use std::marker::Model;
@@ -64,6 +67,43 @@ pub fn circuit_of(alloc: Global, parts: CircuitParts) -> Result<Circuit, Refusal
         outputs,
         gates,
         symbols,
+        wires,
+    })
+}
+
+/// Returns the circuit of these lists, which is in canonical form: so its literals are numbered as they stand.
+pub(crate) fn circuit_of_lists(
+    alloc: Global,
+    inputs: Vec<u32>,
+    latches: Vec<Latch>,
+    outputs: Vec<u32>,
+    gates: Vec<Gate>,
+    symbols: Vec<Symbol>,
+) -> Result<Circuit, AllocError>
+    requires shape { IsCanonicalCircuit (circuit_with inputs.items latches.items outputs.items gates.items
+        symbols.items) }
+    requires circuit { IsCircuit (circuit_with inputs.items latches.items outputs.items gates.items
+        symbols.items) }
+    ensures { IfOk result (λ made. made ≡ circuit_with inputs.items latches.items outputs.items gates.items
+        symbols.items) }
+{
+    let nexts = next_literals(alloc, latches.as_slice())?;
+    let read_outputs = Vec::from_slice(alloc, outputs.as_slice())?;
+    let steps = Vec::from_slice(alloc, gates.as_slice())?;
+    let reads = Reads {
+        nexts,
+        outputs: read_outputs,
+    };
+    let wires = Wires {
+        gates: steps,
+        reads,
+    };
+    Ok(Circuit {
+        inputs: Seq::from_vec(inputs),
+        latches: Seq::from_vec(latches),
+        outputs: Seq::from_vec(outputs),
+        gates: Seq::from_vec(gates),
+        symbols: Seq::from_vec(symbols),
         wires,
     })
 }

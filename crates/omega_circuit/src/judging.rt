@@ -144,7 +144,7 @@ fn reads_of(
 }
 
 /// Returns the next literals of latches.
-fn next_literals(alloc: Global, latches: &[Latch]) -> Result<Vec<u32>, AllocError>
+pub(crate) fn next_literals(alloc: Global, latches: &[Latch]) -> Result<Vec<u32>, AllocError>
     ensures { IfOk result (λ literals. literals.items ≡ next_literals latches.now) }
 {
     latches.iter().map(|latch| latch.next).collect(alloc)

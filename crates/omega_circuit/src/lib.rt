@@ -5,6 +5,7 @@
 //! negation.
 #![tactic(auto)]
 
+mod canonical;
 mod circuit;
 mod gate;
 mod gate_order;
@@ -23,6 +24,7 @@ mod tests;
 mod variables;
 mod wiring;
 
+pub use canonical::canonical_circuit;
 pub use circuit::{Circuit, circuit_of};
 pub use gate::Gate;
 pub use latch::Latch;

@@ -25,7 +25,7 @@ pub(crate) fn defined_literals(alloc: Global, parts: &CircuitParts) -> Result<Ve
 }
 
 /// Appends the literals of latches.
-fn push_latches(literals: &mut Vec<u32>, latches: &[Latch]) -> Result<(), AllocError>
+pub(crate) fn push_latches(literals: &mut Vec<u32>, latches: &[Latch]) -> Result<(), AllocError>
     ensures { OnOk result (literals.new.items
         ≡ literals.old.items ++ map (λ (latch : Latch). latch.literal) latches.now) }
 {
@@ -36,7 +36,7 @@ fn push_latches(literals: &mut Vec<u32>, latches: &[Latch]) -> Result<(), AllocE
 }
 
 /// Appends the literals of gates.
-fn push_gates(literals: &mut Vec<u32>, gates: &[Gate]) -> Result<(), AllocError>
+pub(crate) fn push_gates(literals: &mut Vec<u32>, gates: &[Gate]) -> Result<(), AllocError>
     ensures { OnOk result (literals.new.items
         ≡ literals.old.items ++ map (λ (gate : Gate). gate.literal) gates.now) }
 {

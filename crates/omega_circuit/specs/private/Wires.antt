@@ -1,5 +1,4 @@
 -- What a circuit joins, by numbered literals.
-use Rattle.std.specs.Prelude.{ℕ, List, map}
 use Rattle.omega_circuit.specs.Circuit.{CircuitValue, defined_variables}
 use Rattle.omega_circuit.specs.private.Numbers.{AreNets, AreNumbered, first_gate, next_literals}
 use Rattle.omega_circuit.specs.declared.wiring.Reads.{Reads}

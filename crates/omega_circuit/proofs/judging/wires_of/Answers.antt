@@ -1,5 +1,5 @@
 -- The uses of each kind, in turn.
-use Rattle.std.proofs.Common.{ℕ, ◌/◌, List, All, Vec, subst, sym, ◌∙◌}
+use Rattle.std.proofs.Common.{◌/◌, List, All, Vec, subst, sym, ◌∙◌}
 use Rattle.std.specs.Global.{Global}
 use Rattle.std.specs.List.{Contains}
 use Rattle.std.proofs.lemmas.Bool.{false≢true}

@@ -1,5 +1,5 @@
 -- The values at the next literals.
-use Rattle.std.proofs.Common.{◌≡◌, ℕ, Bool, List, Vec, map, sym, ap, ◌∙◌, subst}
+use Rattle.std.proofs.Common.{◌≡◌, ℕ, Bool, List, Vec, map, ap, ◌∙◌, subst}
 use Rattle.std.specs.Global.{Global}
 use Rattle.omega_circuit.specs.Circuit.{CircuitValue, defined_variables}
 use Rattle.omega_circuit.specs.Rounds.{AreNextLatches, literal_value}

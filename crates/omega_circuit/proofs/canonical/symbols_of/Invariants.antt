@@ -1,0 +1,6 @@
+-- copies of the symbols so far
+use Rattle.std.proofs.Common.{◌≡◌, take}
+use Rattle.omega_circuit.proofs.canonical.symbols_of.Given as goal
+
+abbrev pub invariant-loop-symbol : goal.invariant-loop-symbol
+invariant-loop-symbol l = l.copies.items ≡ take l.symbol-index l.symbols
