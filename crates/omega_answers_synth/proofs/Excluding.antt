@@ -1,6 +1,6 @@
 -- A controller for a specification and a strategy of the environment that beats the specification, played against each
 -- other over the names of propositions, make a word that the specification accepts and does not.
-use Rattle.std.proofs.Common.{◌≡◌, ◌↔◌, ℕ, zero, suc, ◌<◌, ◌≤◌, nat_lt, Bool, true, false, if◌then◌else◌, inl, inr, List, [], ◌∷◌, length, Contains, Some, slice_get, refl, sym, ap, subst, ◌∙◌, true≢false}
+use Rattle.std.proofs.Common.{◌≡◌, ◌↔◌, ℕ, zero, suc, ◌<◌, ◌≤◌, nat_lt, Bool, true, false, if◌then◌else◌, inl, inr, List, [], ◌∷◌, length, Contains, Some, refl, sym, ap, subst, ◌∙◌, true≢false}
 use Rattle.std.specs.Prelude.{slice_index_or}
 use Rattle.std.specs.List.{position_or_len}
 use Rattle.std.specs.Str.{bytes_eq}
@@ -26,7 +26,6 @@ use Rattle.omega_synth_check.specs.Laws.{ControllersRealizeSpecifications, IsNam
 use Rattle.omega_synth_check.specs.Refusing.{AcceptsAll}
 use Rattle.omega_hoa.specs.Laws.{AutomataAreOne}
 use Rattle.omega_io.specs.declared.exit.Exit.{Exit}
-use Rattle.omega_io.specs.declared.exit.Exit.TheVariants.{Done, No}
 use Rattle.omega_answers_synth.specs.Decide.{IsVerdict}
 use Rattle.omega_synth_controllers.specs.Controllers.{HasCounterStrategy}
 use Rattle.omega_answers_synth.specs.Laws.{ControllersExcludeStrategies, ControllersForExcludeCounterStrategies, YesExcludesUnrealizable, YesExcludesYes}

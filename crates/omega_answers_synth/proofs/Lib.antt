@@ -1,6 +1,9 @@
 -- Lemmas by theme.
 -- Ranges of numbers, what items say of one name, letters, which text a refusal is about, what an item lists, and which
 -- answers are `yes`.
+pub mod GivenOutputs
+pub mod FormulaWinning
+mod FormulaExact
 mod Stated
 mod Refused
 mod Observed
@@ -21,3 +24,4 @@ pub mod GivenLetters
 pub mod Rows
 pub mod Numbers
 pub mod Parts
+mod Unfailed

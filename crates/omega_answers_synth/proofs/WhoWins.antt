@@ -1,6 +1,6 @@
 -- The verdicts on an automaton tell who wins it: some strategy of the system realizes it, or some of the environment
 -- beats it.
-use Rattle.std.proofs.Common.{◌≡◌, ◌↔◌, ℕ, Bool, List, refl, sym, subst, ◌∙◌}
+use Rattle.std.proofs.Common.{◌≡◌, ◌↔◌, ℕ, List, refl, sym, subst, ◌∙◌}
 use Rattle.std.specs.Prelude.{codes}
 use Rattle.omega_hoa_automaton.specs.Automaton.{Description, IsAutomaton}
 use Rattle.omega_hoa_automaton.specs.Laws.{MeaningsAreAutomata}
@@ -9,7 +9,6 @@ use Rattle.omega_synth_controllers.specs.Controllable.{IsControlled}
 use Rattle.omega_synth_controllers.specs.Laws.{BeatingExcludesRealizing, ControllersRealize, CounterStrategiesBeat}
 use Rattle.omega_synth_game.specs.RoundsOf.{letters_by_state}
 use Rattle.omega_text.specs.Omniscience.{LimitedPrincipleOfOmniscience}
-use Rattle.omega_hoa.specs.Alone.{IsAutomatonText}
 use Rattle.omega_hoa.specs.Laws.{AutomataAreOne}
 use Rattle.omega_io.specs.declared.exit.Exit.{Exit}
 use Rattle.omega_io.specs.declared.exit.Exit.TheVariants.{Done, No}

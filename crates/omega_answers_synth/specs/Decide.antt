@@ -1,5 +1,5 @@
 -- The answer of `realize` for the text of one automaton: whether it is realizable.
-use Rattle.std.specs.Prelude.{◌≡◌, Bool, List, ℕ, codes}
+use Rattle.std.specs.Prelude.{◌≡◌, List, ℕ, codes}
 use Rattle.omega_hoa_automaton.specs.Automaton.{Description}
 use Rattle.omega_synth_controllers.specs.Controllable.{IsStated}
 use Rattle.omega_synth_controllers.specs.Controllers.{HasController, HasCounterStrategy}

@@ -1,4 +1,4 @@
--- The answer of `verify -f` for the text of a formula, which is that of a file, the names of the outputs, and the text
+-- The answer of `verify -f` for the text of a formula, which is that of a file, the names that are given, and the text
 -- of an automaton: whether the automaton is a controller for the formula.
 use Rattle.std.specs.Prelude.{◌≡◌, ◌⊎◌, Bool, List, ℕ, Option, Some}
 use Rattle.omega_text.specs.declared.refusal.Refusal.{Refusal}
@@ -10,10 +10,10 @@ use Rattle.omega_io.specs.Refused.{about_none}
 use Rattle.omega_io.specs.declared.exit.Exit.{Exit}
 use Rattle.omega_io.specs.declared.refused.Refused.{Refused}
 use Rattle.omega_io.specs.declared.refused.Which.{Which}
+use Rattle.omega_io.specs.declared.refused.Which.TheVariants.{Input}
 use Rattle.omega_io.specs.declared.answer.Answer.{Answer}
 use Rattle.omega_answers_formula.specs.Satisfies.{IsFormulaOrAutomatonUnread, OfFormulaAndAutomaton}
 use Rattle.omega_ltl_formula.specs.Table.{NumberedFormula}
-use Rattle.omega_synth_check.specs.CounterRefusing.{system_numbers}
 use Rattle.omega_synth_check.specs.Refusing.{IsReadable}
 use Rattle.omega_synth_check.specs.declared.judgement.Judgement.{Judgement}
 use Rattle.omega_synth_check.specs.declared.judgement.Judgement.TheVariants as told
@@ -24,7 +24,8 @@ use Rattle.omega_synth_formula.specs.declared.judgement.FormulaJudgement.TheVari
 use Rattle.omega_synth_formula.specs.declared.judgement.FormulaJudgement.TheVariants.{NotSatisfied}
 use Rattle.omega_synth_formula.specs.declared.judgement.FormulaJudgement.TheVariants.{Unanswered}
 use Rattle.omega_answers_synth.specs.Counter.{counter_text}
-use Rattle.omega_answers_synth.specs.Outputs.{AreOutputs, IsMisnamed}
+use Rattle.omega_answers_synth.specs.Outputs.{AreNotOutputs, AreOutputs, IsRefusedWithLists, NameLists, OfOutputs}
+use Rattle.omega_answers_synth.specs.Outputs.{output_numbers}
 use Rattle.omega_answers_synth.specs.Reason.{judgement_answer}
 
 -- the judgement for a specification that is told alike: a word that does not satisfy the formula as one that the
@@ -34,10 +35,6 @@ judgement_told Controls = told.Controls
 judgement_told NoStart = told.NoStart
 judgement_told (Unanswered lack) = told.Unanswered lack
 judgement_told (NotSatisfied example) = told.NotAccepted example
-
--- the numbers of the outputs among the propositions of an automaton
-abbrev pub output_numbers : Description → (outs : List (List ℕ)) → List ℕ
-output_numbers a outs = system_numbers a.propositions outs
 
 -- `yes`, or `no`, explained by what the automaton lacks
 abbrev pub formula_judgement_answer : (explain : Bool) → (controller : Description)
@@ -49,26 +46,32 @@ formula_judgement_answer explain controller outs judgement =
 -- controls the propositions that are outputs, and else `no` with the reason
 pub record IsFormulaControllerVerdict (formula : NumberedFormula) (outs : List (List ℕ))
     (controller : Description) (explain : Bool) (exit : Exit) (output : List ℕ) : Type 0 where
-  pub outputs : AreOutputs formula outs controller
+  pub outputs : AreOutputs outs controller
   pub readable : IsReadable controller
   pub judgement : FormulaJudgement
   pub right : IsFormulaJudgement formula controller (output_numbers controller outs) judgement
   pub reply : IsReply (formula_judgement_answer explain controller outs judgement) exit output
 
--- the answer of `verify -f`: the texts are those of a formula and an automaton, and what is written of the two is right
-abbrev pub IsFormulaControllerAnswer : (file : List ℕ) → (outs : List (List ℕ)) → (input : List ℕ)
+-- so it is with the lists of names that are given
+abbrev pub IsNamedControllerVerdict : NumberedFormula → NameLists → (controller : Description)
     → (explain : Bool) → Exit → List ℕ → Type 0
-IsFormulaControllerAnswer file outs input explain exit output =
-    OfFormulaAndAutomaton (λ formula controller.
-    IsFormulaControllerVerdict formula outs controller explain exit output) file input
+IsNamedControllerVerdict formula lists controller explain exit output = OfOutputs formula lists
+    (λ outs. IsFormulaControllerVerdict formula outs controller explain exit output)
 
--- the refusal for a formula and an automaton, and the text that it is about: that of the outputs, then that of the
--- judge, whose universal branching and whose acceptance that is not `all` are the automaton's
+-- the answer of `verify -f`: the texts are those of a formula and an automaton, and what is written of the two is right
+abbrev pub IsFormulaControllerAnswer : (file : List ℕ) → NameLists → (input : List ℕ)
+    → (explain : Bool) → Exit → List ℕ → Type 0
+IsFormulaControllerAnswer file lists input explain exit output =
+    OfFormulaAndAutomaton (λ formula controller.
+    IsNamedControllerVerdict formula lists controller explain exit output) file input
+
+-- the refusal for a formula, its outputs and an automaton, and the text that it is about: that of the automaton's item,
+-- then that of the judge, whose universal branching and whose acceptance that is not `all` are the automaton's
 pub data IsFormulaPairRefusal (formula : NumberedFormula) (outs : List (List ℕ))
     (controller : Description) : Option Which → Refusal → Type 0 where
-  misnamed : (text : Which) → IsMisnamed formula outs controller text
-      → IsFormulaPairRefusal formula outs controller (Some text) (Task Controllable)
-  not_judged : (refusal : Refusal) → AreOutputs formula outs controller
+  not_outputs : AreNotOutputs outs controller
+      → IsFormulaPairRefusal formula outs controller (Some Input) (Task Controllable)
+  not_judged : (refusal : Refusal) → AreOutputs outs controller
       → IsFormulaJudgeRefusal formula controller (output_numbers controller outs) refusal
       → IsFormulaPairRefusal formula outs controller (counter_text refusal) refusal
 
@@ -78,9 +81,15 @@ abbrev pub RefusesFormulaController : NumberedFormula → (outs : List (List ℕ
 RefusesFormulaController formula outs controller refused = (refused ≡ about_none Memory)
     ⊎ IsFormulaPairRefusal formula outs controller refused.text refused.refusal
 
--- the refusal of `verify -f`: that of one of the texts, or else that of the two
-abbrev pub IsFormulaControllerRefused : (file : List ℕ) → (outs : List (List ℕ)) → (input : List ℕ)
+-- the lists do not part the names of the formula, or else the two are refused so
+abbrev pub RefusesNamedController : NumberedFormula → NameLists → (controller : Description)
     → Refused → Type 0
-IsFormulaControllerRefused file outs input refused = IsFormulaOrAutomatonUnread file input refused
+RefusesNamedController formula lists controller = IsRefusedWithLists formula lists
+    (λ outs. RefusesFormulaController formula outs controller)
+
+-- the refusal of `verify -f`: that of one of the texts, or else that of the two
+abbrev pub IsFormulaControllerRefused : (file : List ℕ) → NameLists → (input : List ℕ)
+    → Refused → Type 0
+IsFormulaControllerRefused file lists input refused = IsFormulaOrAutomatonUnread file input refused
     ⊎ OfFormulaAndAutomaton (λ formula controller.
-    RefusesFormulaController formula outs controller refused) file input
+    RefusesNamedController formula lists controller refused) file input

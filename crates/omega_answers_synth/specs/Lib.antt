@@ -14,6 +14,10 @@ pub mod Counter
 pub mod Outputs
 pub mod FormulaController
 pub mod FormulaCounter
+pub mod FormulaWinner
+pub mod FormulaRefusing
+pub mod FormulaGame
+pub mod FormulaLaws
 pub mod Laws
 pub use Rattle.omega_text.specs.Cases
 pub use Rattle.omega_text.specs.Refusal

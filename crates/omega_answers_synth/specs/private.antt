@@ -5,4 +5,6 @@ pub mod Question
 pub mod Alike
 pub mod Listed
 pub mod Literals
+pub mod Parted
+pub mod Own
 pub mod Reported

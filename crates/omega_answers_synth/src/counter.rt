@@ -8,8 +8,8 @@ ghost use Rattle.omega_synth_check.specs.CounterRefusing.{AreCounterJudged, IsCo
 ghost use Rattle.omega_answers_synth.specs.Counter.{IsCounterAnswer, IsCounterRefused, IsCounterVerdict};
 ghost use Rattle.omega_answers_synth.specs.Counter.{RefusesCounter, counter_answer, letterless_lines};
 ghost use Rattle.omega_answers_synth.specs.Parting.{AreSystemNames};
-ghost use Rattle.omega_answers_synth.specs.private.Reported.{counter_reported};
 
+use crate::about::counter_reported;
 use crate::parting::{parted_numbers, system_names};
 use crate::reason::start_lines;
 use omega_answers::{Answer, read_two};
@@ -20,7 +20,7 @@ use omega_lang_lasso_text::append_numbers;
 use omega_synth_check::{
     CounterJudgement, LetterlessPair, check_specification, judge_counter_strategy,
 };
-use omega_text::{ByteString, TaskFault, write_number};
+use omega_text::{ByteString, write_number};
 use std::alloc::Global;
 
 /// Decides whether the automaton of `text` is a counter-strategy for that of `specification`: a strategy of the
@@ -79,18 +79,6 @@ fn counter_verdict(
     match counter_reply(alloc, specification, strategy, names.as_slice(), explain) {
         Ok(made) => Ok(made),
         Err(refusal) => Err(counter_reported(refusal)),
-    }
-}
-
-/// Makes a refusal of the judge one of the text that it is about.
-fn counter_reported(refusal: Refusal) -> Refused
-    ensures { result ≡ counter_reported refusal }
-{
-    match refusal {
-        Refusal::Task(TaskFault::NotDeterministic(_)) => Refused::of(Which::Input, refusal),
-        Refusal::Task(TaskFault::NotParity) => Refused::of(Which::Input, refusal),
-        Refusal::Task(TaskFault::UniversalBranch) => Refused::of(Which::Input, refusal),
-        _ => Refused::from(refusal),
     }
 }
 

@@ -9,11 +9,13 @@ ghost use Rattle.omega_synth_formula.specs.CounterRefusing.{IsFormulaCounterRefu
 ghost use Rattle.omega_answers_synth.specs.FormulaCounter.{IsFormulaCounterAnswer};
 ghost use Rattle.omega_answers_synth.specs.FormulaCounter.{IsFormulaCounterRefused};
 ghost use Rattle.omega_answers_synth.specs.FormulaCounter.{IsFormulaCounterVerdict, RefusesFormulaCounter};
+ghost use Rattle.omega_answers_synth.specs.FormulaCounter.{IsNamedCounterVerdict, RefusesNamedCounter};
 ghost use Rattle.omega_answers_synth.specs.FormulaCounter.{formula_counter_answer, state_lines};
-ghost use Rattle.omega_answers_synth.specs.Outputs.{AreOutputs};
+ghost use Rattle.omega_answers_synth.specs.Outputs.{AreOutputs, lists_of};
 
-use crate::formula_controller::form_reported;
-use crate::outputs::check_outputs;
+use crate::about::counter_reported;
+use crate::given_names::GivenNames;
+use crate::outputs::{check_outputs, outputs_of};
 use crate::reason::start_lines;
 use omega_answers::Answer;
 use omega_answers_inclusion::counterexample_lines;
@@ -33,8 +35,8 @@ use std::alloc::Global;
 /// environment against which no system satisfies it. It is to be deterministic. Returns `yes` with [Exit::Done], else
 /// `no` with [Exit::No].
 ///
-/// The system controls the propositions whose names are `outs`, and the environment all others. Each of these names is
-/// to stand in the formula. The automaton need not have all names of the formula, and may have others.
+/// The system controls the propositions whose names `names` gives to it, and the environment all others, as for
+/// `verify_formula_controller`. The automaton need not have all names of the formula, and may have others.
 ///
 /// If `explain` is set, lines follow `no`. Without a start there is one, `no start`. For a state in which the
 /// environment has no letter they are `state` with its number, and `stem` with the edges that lead there from a start.
@@ -49,16 +51,16 @@ use std::alloc::Global;
 pub fn verify_formula_counter_strategy(
     alloc: Global,
     formula: &[u8],
-    outs: &[ByteString],
+    names: GivenNames<'_>,
     text: &[u8],
     explain: bool,
 ) -> Result<(Exit, Vec<u8>), Refused>
-    ensures answer { IfOk result (λ made.
-        IsFormulaCounterAnswer formula.now outs.now text.now explain made.0 made.1.items) }
-    ensures refused { IfErr result (IsFormulaCounterRefused formula.now outs.now text.now) }
+    ensures answer { IfOk result (λ made. IsFormulaCounterAnswer
+        formula.now (lists_of names.entry) text.now explain made.0 made.1.items) }
+    ensures refused { IfErr result (IsFormulaCounterRefused formula.now (lists_of names.entry) text.now) }
 {
     match read_formula(alloc, formula) {
-        Ok(read) => counter_verdict_on_text(alloc, &read, outs, text, explain),
+        Ok(read) => counter_verdict_on_text(alloc, &read, names, text, explain),
         Err(refusal) => Err(Refused::of(Which::File, refusal)),
     }
 }
@@ -68,23 +70,42 @@ pub fn verify_formula_counter_strategy(
 fn counter_verdict_on_text(
     alloc: Global,
     formula: &Formula,
-    outs: &[ByteString],
+    names: GivenNames<'_>,
     text: &[u8],
     explain: bool,
 ) -> Result<(Exit, Vec<u8>), Refused>
     ensures verdict { IfOk result (λ made. (a : Description) × IsAutomatonText text.now a
-        × IsFormulaCounterVerdict formula.now outs.now a explain made.0 made.1.items) }
+        × IsNamedCounterVerdict formula.now (lists_of names.entry) a explain made.0 made.1.items) }
     ensures refused { IfErr result (λ refused. (source : List ℕ) → IsFormulaOfText source formula.now
-        → IsFormulaCounterRefused source outs.now text.now refused) }
+        → IsFormulaCounterRefused source (lists_of names.entry) text.now refused) }
 {
     match read_one(alloc, text) {
-        Ok(automaton) => formula_counter_verdict(alloc, formula, outs, &automaton, explain),
+        Ok(automaton) => named_counter_verdict(alloc, formula, names, &automaton, explain),
         Err(refusal) => Err(Refused::of(Which::Input, refusal)),
     }
 }
 
-/// Returns the exit and the text for a formula and an automaton. Fails as [verify_formula_counter_strategy] does after
-/// both texts are read.
+/// Returns the exit and the text for a formula, the names that are given and an automaton. Fails as
+/// [verify_formula_counter_strategy] does after both texts are read.
+fn named_counter_verdict(
+    alloc: Global,
+    formula: &Formula,
+    names: GivenNames<'_>,
+    strategy: &Automaton,
+    explain: bool,
+) -> Result<(Exit, Vec<u8>), Refused>
+    ensures verdict { IfOk result (λ made. IsNamedCounterVerdict
+        formula.now (lists_of names.entry) strategy.now explain made.0 made.1.items) }
+    ensures refused { IfErr result (RefusesNamedCounter formula.now (lists_of names.entry) strategy.now) }
+{
+    match outputs_of(alloc, formula, names) {
+        Ok(outs) => formula_counter_verdict(alloc, formula, outs.as_slice(), strategy, explain),
+        Err(unparted) => Err(Refused::of(Which::File, unparted)),
+    }
+}
+
+/// Returns the exit and the text for a formula, its outputs and an automaton. Fails as
+/// [verify_formula_counter_strategy] does after the outputs are known.
 fn formula_counter_verdict(
     alloc: Global,
     formula: &Formula,
@@ -96,14 +117,14 @@ fn formula_counter_verdict(
         IsFormulaCounterVerdict formula.now outs.now strategy.now explain made.0 made.1.items) }
     ensures refused { IfErr result (RefusesFormulaCounter formula.now outs.now strategy.now) }
 {
-    check_outputs(alloc, formula, outs, strategy)?;
+    check_outputs(alloc, outs, strategy)?;
     match formula_counter_reply(alloc, formula, outs, strategy, explain) {
         Ok(made) => Ok(made),
-        Err(refusal) => Err(form_reported(refusal)),
+        Err(refusal) => Err(counter_reported(refusal)),
     }
 }
 
-/// Returns the exit and the text for a formula, its outputs and an automaton. Fails as
+/// Returns the exit and the text for a formula, outputs on which the automaton agrees, and the automaton. Fails as
 /// `judge_counter_strategy_for_formula` does.
 fn formula_counter_reply(
     alloc: Global,
@@ -112,7 +133,7 @@ fn formula_counter_reply(
     strategy: &Automaton,
     explain: bool,
 ) -> Result<(Exit, Vec<u8>), Refusal>
-    requires { AreOutputs formula.now outs.now strategy.now }
+    requires { AreOutputs outs.now strategy.now }
     ensures verdict { IfOk result (λ made.
         IsFormulaCounterVerdict formula.now outs.now strategy.now explain made.0 made.1.items) }
     ensures refused { IfErr result (IsFormulaCounterRefusal formula.now strategy.now outs.now) }

@@ -1,5 +1,7 @@
 //! Laws of answers. No code that runs.
 
+ghost use Rattle.omega_answers_synth.specs.FormulaLaws.{FormulaAnswersAreOne, FormulaRefusalsAreNoFailures};
+ghost use Rattle.omega_answers_synth.specs.FormulaLaws.{WrittenControllersAreJudged, WrittenCounterStrategiesAreJudged};
 ghost use Rattle.omega_answers_synth.specs.Laws.{ControllerAnswersAreExact, LettersAreTrueWhereGiven};
 ghost use Rattle.omega_answers_synth.specs.Laws.{ControllersExcludeStrategies, ControllersForExcludeCounterStrategies};
 ghost use Rattle.omega_answers_synth.specs.Laws.{CounterAnswersAreExact, YesExcludesYes};
@@ -8,12 +10,17 @@ ghost use Rattle.omega_answers_synth.specs.Laws.{WrittenControllersAreParts, Yes
 
 use omega_hoa::automata_are_one;
 use omega_hoa_automaton::meanings_are_automata;
+use omega_ltl_text::laws::formulas_of_texts_are_one;
 use omega_synth_check::{
     controllers_realize_specifications, counter_judgements_are_exact, counter_strategies_for_beat,
     judgements_are_exact,
 };
 use omega_synth_controllers::{
     beating_excludes_realizing, controllers_realize, counter_strategies_beat,
+};
+use omega_synth_formula::{
+    formula_controllers_exclude_counter_strategies, formula_counter_judgements_are_exact,
+    formula_judgements_are_exact,
 };
 
 /// States that `verify_controller` returns `yes` exactly if the one text is that of a controller for the specification
@@ -110,4 +117,41 @@ pub fn letters_are_true_where_given()
 /// for states that are reached and for kept edges, and each state has all kept edges of the one that it stands for.
 pub fn written_controllers_are_parts()
     ensures { WrittenControllersAreParts }
+{}
+
+/// States that the text of a formula with the same names is not both `realizable` and `unrealizable`: all answers of
+/// `decide_formula_realizability` to it are one. It has the premise of `formula_judgements_are_exact`.
+pub fn formula_answers_are_one()
+    ensures { FormulaAnswersAreOne }
+{
+    formulas_of_texts_are_one();
+    meanings_are_automata();
+    formula_judgements_are_exact();
+    formula_counter_judgements_are_exact();
+    formula_controllers_exclude_counter_strategies();
+}
+
+/// States that `verify_formula_controller` returns `yes` of each controller that `write_formula_winner` returns, unless
+/// it fails. It has the same premise.
+pub fn written_formula_controllers_are_judged()
+    ensures { WrittenControllersAreJudged }
+{
+    formulas_of_texts_are_one();
+    automata_are_one();
+    formula_judgements_are_exact();
+}
+
+/// States that `verify_formula_counter_strategy` returns `yes` of each counter-strategy that `write_formula_winner`
+/// returns, unless it fails. It has the same premise.
+pub fn written_formula_counter_strategies_are_judged()
+    ensures { WrittenCounterStrategiesAreJudged }
+{
+    formulas_of_texts_are_one();
+    automata_are_one();
+    formula_counter_judgements_are_exact();
+}
+
+/// States that neither `decide_formula_realizability` nor `write_formula_winner` fails with [Refusal::Io].
+pub fn formula_refusals_are_no_failures()
+    ensures { FormulaRefusalsAreNoFailures }
 {}

@@ -1,16 +1,18 @@
 //! The winner's automaton: a controller or a counter-strategy.
 
-ghost use Rattle.std.specs.Prelude.{◌≤◌, IfErr, IfOk, IsOkUnless};
+ghost use Rattle.std.specs.Prelude.{◌≡◌, ◌≤◌, false, IfErr, IfOk, IsOkUnless};
+ghost use Rattle.omega_hoa_automaton.specs.Branching.{has_universal_branching};
 ghost use Rattle.omega_solve.specs.budget.Observing.{IsObserved, refusal_in};
 ghost use Rattle.omega_solve.specs.Limits.{most_lifts};
 ghost use Rattle.omega_text.specs.Cases.{or_memory};
 ghost use Rattle.omega_answers_synth.specs.Observing.{LiftsText};
 ghost use Rattle.omega_answers_synth.specs.Refusing.{IsRealizeRefusal};
-ghost use Rattle.omega_answers_synth.specs.Winner.{IsWinnerAnswer, IsWinning};
+ghost use Rattle.omega_synth_realize.specs.Realizing.{IsRealizability};
+ghost use Rattle.omega_answers_synth.specs.Winner.{IsWinner, IsWinnerAnswer, IsWinning};
 ghost use Rattle.omega_answers_synth.specs.private.Decided.{IsDecidedRightly};
 
 use crate::decided::{Decided, decided_by_lifting, decided_in};
-use omega_hoa_automaton::Refusal;
+use omega_hoa_automaton::{Automaton, Refusal};
 use omega_io::Exit;
 use omega_solve::budget::Reporter;
 use omega_synth_realize::Realizability;
@@ -53,9 +55,28 @@ fn winner_of(alloc: Global, decided: &Decided) -> Result<(Exit, Vec<u8>), Refusa
         (λ made. IsWinning decided.now.question.automaton made.0 made.1.items) }
     ensures memory { IsOkUnless result Refusal.Memory }
 {
-    let automaton = &decided.question.automaton;
-    let controlled = decided.question.controlled.as_slice();
-    match &decided.realizability {
+    winner_text(
+        alloc,
+        &decided.question.automaton,
+        decided.question.controlled.as_slice(),
+        &decided.realizability,
+    )
+}
+
+/// Returns who wins `automaton`, where the system controls the propositions with the numbers `controlled`, and the
+/// canonical text of the automaton of the winner that was found.
+pub(crate) fn winner_text(
+    alloc: Global,
+    automaton: &Automaton,
+    controlled: &[u32],
+    found: &Realizability,
+) -> Result<(Exit, Vec<u8>), Refusal>
+    requires plain { has_universal_branching automaton.now ≡ false }
+    requires right { IsRealizability automaton.now controlled.now found.now }
+    ensures winner { IfOk result (λ made. IsWinner automaton.now controlled.now made.0 made.1.items) }
+    ensures memory { IsOkUnless result Refusal.Memory }
+{
+    match found {
         Realizability::Realizable { kept } => {
             let text = controller_text(alloc, automaton, controlled, kept.as_slice())?;
             Ok((Exit::Done, text))

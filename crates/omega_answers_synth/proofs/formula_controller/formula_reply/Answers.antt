@@ -8,7 +8,7 @@ use Rattle.omega_synth_check.specs.CounterRefusing.{system_numbers}
 use Rattle.omega_synth_check.specs.declared.judgement.Judgement.{Judgement}
 use Rattle.omega_synth_formula.specs.Judging.{IsFormulaJudgement}
 use Rattle.omega_synth_formula.specs.Refusing.{no_memory}
-use Rattle.omega_answers_synth.specs.FormulaController.{output_numbers}
+use Rattle.omega_answers_synth.specs.Outputs.{output_numbers}
 use Rattle.omega_answers_synth.specs.Reason.{judgement_answer}
 use Rattle.omega_answers_synth.proofs.FormulaReported.{judge_refused_for}
 use Rattle.omega_answers_synth.proofs.formula_controller.formula_reply.Goals as goal

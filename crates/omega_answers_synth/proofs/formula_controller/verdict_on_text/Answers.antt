@@ -12,11 +12,11 @@ use Rattle.omega_answers_synth.proofs.formula_controller.verdict_on_text.Goals a
 
 pub returns-in-Ok-clause-verdict : goal.returns-in-Ok-clause-verdict
 returns-in-Ok-clause-verdict c =
-    IfOk-weaker c.formula_verdict.result _ _ (λ made verdict. (c.in-Ok.automaton, c.in-Ok.ensures.automaton, verdict)) c.formula_verdict.ensures.verdict
+    IfOk-weaker c.named_verdict.result _ _ (λ made verdict. (c.in-Ok.automaton, c.in-Ok.ensures.automaton, verdict)) c.named_verdict.ensures.verdict
 
 pub returns-in-Ok-clause-refused : goal.returns-in-Ok-clause-refused
 returns-in-Ok-clause-refused c =
-    IfErr-weaker c.formula_verdict.result _ _
+    IfErr-weaker c.named_verdict.result _ _
     (λ refused is source of_formula.
     inr (record {
       file = c.args.formula.now;
@@ -25,7 +25,7 @@ returns-in-Ok-clause-refused c =
       input_read = c.in-Ok.ensures.automaton;
       holds = is;
     }))
-    c.formula_verdict.ensures.refused
+    c.named_verdict.ensures.refused
 
 pub returns-in-Err-clause-refused : goal.returns-in-Err-clause-refused
 returns-in-Err-clause-refused c = λ source of_formula.

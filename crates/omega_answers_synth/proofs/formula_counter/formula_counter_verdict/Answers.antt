@@ -12,5 +12,5 @@ returns-in_err-check_outputs-clause-refused c =
 
 pub returns-in-Err-clause-refused : goal.returns-in-Err-clause-refused
 returns-in-Err-clause-refused c =
-    subst (RefusesFormulaCounter c.args.formula.now c.args.outs.now c.args.strategy.now) (sym c.form_reported.ensures)
+    subst (RefusesFormulaCounter c.args.formula.now c.args.outs.now c.args.strategy.now) (sym c.counter_reported.ensures)
     (inr (not_judged c.in-Err.refusal c.in_ok-check_outputs.ensures.outputs c.in-Err.ensures.refused))

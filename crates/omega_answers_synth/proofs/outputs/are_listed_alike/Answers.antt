@@ -1,5 +1,5 @@
 -- one proposition more, and all of them
-use Rattle.std.proofs.Common.{◌≡◌, ◌<◌, [], ℕ, List, Bool, true, false, length, get_or, refl, sym, ap₂, ◌∙◌, arith}
+use Rattle.std.proofs.Common.{◌≡◌, ◌<◌, [], ℕ, List, length, refl, sym, ap₂, ◌∙◌, arith}
 use Rattle.std.specs.List.{list_any}
 use Rattle.std.specs.Str.{bytes_eq}
 use Rattle.std.proofs.lemmas.Bool.{false≢true}

@@ -1,5 +1,5 @@
--- one output more, and all of them
-use Rattle.std.proofs.Common.{◌≡◌, ◌<◌, [], ℕ, List, Bool, true, false, length, get_or, refl, sym, ap, ◌∙◌, arith}
+-- one name more, and all of them
+use Rattle.std.proofs.Common.{◌<◌, [], ℕ, List, length, refl, sym, ap, ◌∙◌, arith}
 use Rattle.std.specs.List.{list_any}
 use Rattle.std.specs.Str.{bytes_eq}
 use Rattle.std.proofs.lemmas.Bool.{false≢true}
@@ -9,27 +9,27 @@ use Rattle.omega_answers_synth.proofs.outputs.are_named.Goals as goal
 
 pub returns-then-not-is_name_among : goal.returns-then-not-is_name_among
 returns-then-not-is_name_among c =
-    let outs : List (List ℕ) = c.args.outs.now in
-    let out : List ℕ = c.as_slice.result.now in
-    let k : ℕ = c.loop-out.out-index in
-    let below : k < length outs = omega (arith, c.loop-out-test.true) in (
+    let names : List (List ℕ) = c.args.names.now in
+    let name : List ℕ = c.as_slice.result.now in
+    let k : ℕ = c.loop-name.name-index in
+    let below : k < length names = omega (arith, c.loop-name-test.true) in (
       λ no. absurd (false≢true no),
       λ named.
-          absurd (unnamed_at outs c.args.formula.now.table.names k out below (c.as_slice.ensures ∙ get_or_read outs k c.out-item.result below c.out-item.is [])
-          (sym (ap (λ (names : List (List ℕ)). list_any (bytes_eq out) names) c.names.ensures) ∙ sym c.is_name_among.ensures ∙ c.if-not-is_name_among.true) named),
+          absurd (unnamed_at names c.args.formula.now.table.names k name below (c.as_slice.ensures ∙ get_or_read names k c.name-item.result below c.name-item.is [])
+          (sym (ap (λ (others : List (List ℕ)). list_any (bytes_eq name) others) c.names.ensures) ∙ sym c.is_name_among.ensures ∙ c.if-not-is_name_among.true) named),
     )
 
-pub loop-out-preserved : goal.loop-out-preserved
-loop-out-preserved c =
-    let outs : List (List ℕ) = c.args.outs.now in
-    let out : List ℕ = c.as_slice.result.now in
-    let k : ℕ = c.loop-out.out-index in
-    let below : k < length outs = omega (arith, c.loop-out-test.true) in
-    named_more outs c.args.formula.now.table.names k out (c.as_slice.ensures ∙ get_or_read outs k c.out-item.result below c.out-item.is [])
-    (sym (ap (λ (names : List (List ℕ)). list_any (bytes_eq out) names) c.names.ensures) ∙ sym c.is_name_among.ensures ∙ c.if-not-is_name_among.false) c.loop-out.invariant
+pub loop-name-preserved : goal.loop-name-preserved
+loop-name-preserved c =
+    let names : List (List ℕ) = c.args.names.now in
+    let name : List ℕ = c.as_slice.result.now in
+    let k : ℕ = c.loop-name.name-index in
+    let below : k < length names = omega (arith, c.loop-name-test.true) in
+    named_more names c.args.formula.now.table.names k name (c.as_slice.ensures ∙ get_or_read names k c.name-item.result below c.name-item.is [])
+    (sym (ap (λ (others : List (List ℕ)). list_any (bytes_eq name) others) c.names.ensures) ∙ sym c.is_name_among.ensures ∙ c.if-not-is_name_among.false) c.loop-name.invariant
 
 pub returns : goal.returns
 returns c = (
-  λ yes. named_all c.args.outs.now c.args.formula.now.table.names c.loop-out.out-index (omega (arith, c.loop-out-test.false)) c.loop-out.invariant,
+  λ yes. named_all c.args.names.now c.args.formula.now.table.names c.loop-name.name-index (omega (arith, c.loop-name-test.false)) c.loop-name.invariant,
   λ named. refl,
 )
