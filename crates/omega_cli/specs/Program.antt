@@ -80,9 +80,11 @@ solve = with_options (codes "solve") (optional (codes "player") ∷ optional (co
     ∷ optional (codes "budget") ∷ flag (codes "progress") ∷ flag (codes "lenient") ∷ verbose
     ∷ operand (codes "file") ∷ [])
 
+-- 102 is the letter f
 abbrev pub verify : Shape
 verify = with_options (codes "verify")
     (optional (codes "game") ∷ optional (codes "automaton") ∷ optional (codes "specification")
+    ∷ optional_lettered 102 (codes "formula") ∷ optional (codes "outs") ∷ optional (codes "ins")
     ∷ flag (codes "counter-strategy") ∷ flag (codes "winners") ∷ optional (codes "from")
     ∷ flag (codes "explain") ∷ flag (codes "names") ∷ flag (codes "lenient") ∷ verbose
     ∷ operand (codes "file") ∷ [])
@@ -104,7 +106,6 @@ abbrev pub contained : Shape
 contained = with_options (codes "contained") (required (codes "in") ∷ flag (codes "explain")
     ∷ flag (codes "stream") ∷ verbose ∷ operand (codes "file") ∷ [])
 
--- 102 is the letter f
 abbrev pub equal : Shape
 equal = with_options (codes "equal") (optional (codes "to") ∷ optional_repeated 102 (codes "formula")
     ∷ flag (codes "explain") ∷ verbose ∷ operand (codes "file") ∷ [])
@@ -134,7 +135,8 @@ ltl = with_options (codes "ltl") (optional_lettered 102 (codes "formula") ∷ fl
 
 abbrev pub realize : Shape
 realize = with_options (codes "realize")
-    (flag (codes "controller") ∷ named (codes "game") (codes "as-game") ∷ flag (codes "lift")
+    (optional_lettered 102 (codes "formula") ∷ optional (codes "outs") ∷ optional (codes "ins")
+    ∷ flag (codes "controller") ∷ named (codes "game") (codes "as-game") ∷ flag (codes "lift")
     ∷ optional (codes "budget") ∷ flag (codes "progress") ∷ verbose ∷ operand (codes "file") ∷ [])
 
 abbrev pub draw : Shape

@@ -31,6 +31,8 @@ pub fn options_in<'m, 'a>(found: &'m ArgMatches<'a>) -> Options<'m, 'a>
         word_text: found.get_str("word-text"),
         for_some: found.get_str("some"),
         formulas: found.get_strs("formula"),
+        outs: found.get_str("outs"),
+        ins: found.get_str("ins"),
         negated: found.get_str("negated"),
         deterministic: found.get_str("deterministic"),
         status: found.get_str("status"),

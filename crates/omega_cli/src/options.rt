@@ -115,6 +115,20 @@ pub const AUTOMATON: OptionHelp = OptionHelp {
     help: "Judge a lasso of the automaton in this file",
 };
 
+/// The option that lists the names of the propositions that the system controls.
+pub const OUTS: OptionHelp = OptionHelp {
+    name: "outs",
+    value: Value::Optional("NAMES"),
+    help: "With --formula, the names that the system controls, with commas between them",
+};
+
+/// The option that lists the names of the propositions that the environment controls.
+pub const INS: OptionHelp = OptionHelp {
+    name: "ins",
+    value: Value::Optional("NAMES"),
+    help: "With --formula, the names that the environment controls, with commas between them",
+};
+
 /// The option that names the file of another automaton.
 pub const WITH: OptionHelp = OptionHelp {
     name: "with",

@@ -49,8 +49,9 @@ A word is accepted if its run takes the first edge again and again. `omega show`
 read both formats, and --format says which, or of a file its first token. `omega empty`, `omega game`,
 `omega accepts`, `omega satisfies`, `omega complement`, `omega trim` and `omega realize` read one
 automaton, `omega contained`, `omega equal`, `omega meet` and `omega join` read two, and `omega draw`
-draws one automaton or a game. `omega ltl` makes an automaton of a formula. With --stream `omega empty`,
-`contained`, `satisfies`, `complement` and `trim` take automata one after the other.
+draws one automaton or a game. `omega ltl` makes an automaton of a formula, and `omega realize -f` a
+controller. With --stream `omega empty`, `contained`, `satisfies`, `complement` and `trim` take automata
+one after the other.
 
 A command reads the file that its last word names, as in `omega solve game.pg`. Without a name, or with
 -, it reads standard input. It writes its answer to standard output. If a text or the task is refused, a

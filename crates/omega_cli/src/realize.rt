@@ -2,7 +2,7 @@ ghost use Rattle.std.specs.Prelude.{◌≡◌, IfOk};
 ghost use Rattle.omega_cli.specs.Program.{realize};
 ghost use Rattle.clap.specs.Words.{shape_of};
 
-use crate::options::{BUDGET, FILE, OptionHelp, PROGRESS, VERBOSE, Value};
+use crate::options::{BUDGET, FILE, INS, OUTS, OptionHelp, PROGRESS, VERBOSE, Value};
 use crate::subcommand::subcommand;
 use clap::Command;
 use std::alloc::{AllocError, Global};
@@ -64,6 +64,21 @@ far, and the bound or, if it is less, the budget.
 
 --budget and --progress go with --lift only, and --game goes neither with --controller nor with --lift.
 
+--formula, or -f, gives a formula of linear temporal logic in place of the automaton, written as for
+`omega ltl`. --outs lists the names of its propositions that the system controls, and --ins those that the
+environment controls, with commas between them; white space around a name is passed over, and an empty
+list has no name. One of the two is enough: all other names are the other player's. With both, each name
+of the formula has to stand in exactly one. Then the answers are as above, also with --controller and
+--game.
+
+  $ omega realize -f 'G(request -> grant) & G !(grant & busy)' --outs grant
+  unrealizable
+  $ omega realize -f 'G(request -> X grant)' --ins request
+  realizable
+
+A deterministic parity automaton is made of the formula, as `omega ltl --deterministic` makes it, and
+decided by a search. -f goes neither with FILE nor with --lift, --budget or --progress.
+
 Faults of the text come first; `omega check --help` lists them. A text with --ABORT--, with no automaton
 or with several is not one automaton, and is refused as 3 Syntax. If `controllable-AP:` is missing or
 stands twice, or lists a number twice or one that no proposition has, the refusal is 58 Controllable. Then
@@ -80,10 +95,21 @@ these come, in this order:
 50 TooWide: lifting where the nodes times the priorities that lose for a player are over 67108864
 51 Budget: lifts that the budget does not allow
 
+With -f the faults of the formula come first, those of `omega ltl --deterministic`. The refusal is
+58 Controllable if a name that is listed is none of the formula's, or if with both lists a name of the
+formula stands in both or in neither.
+
 Exit status: 0 realizable, or the game is written, 1 the text or the task is refused, 2 the command line
 is wrong, 3 the budget is used up, 4 out of memory, 5 a read or a write failed, 6 unrealizable.";
 
 const OPTIONS: &[OptionHelp] = &[
+    OptionHelp {
+        name: "formula",
+        value: Value::OptionalLettered('f', "FORMULA"),
+        help: "Decide a formula, as `omega ltl` reads one, in place of the automaton in FILE",
+    },
+    OUTS,
+    INS,
     OptionHelp {
         name: "controller",
         value: Value::None,

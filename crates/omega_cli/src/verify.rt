@@ -2,7 +2,9 @@ ghost use Rattle.std.specs.Prelude.{◌≡◌, IfOk};
 ghost use Rattle.omega_cli.specs.Program.{verify};
 ghost use Rattle.clap.specs.Words.{shape_of};
 
-use crate::options::{AUTOMATON, EXPLAIN, FILE, GAME, LENIENT, OptionHelp, VERBOSE, Value};
+use crate::options::{
+    AUTOMATON, EXPLAIN, FILE, GAME, INS, LENIENT, OUTS, OptionHelp, VERBOSE, Value,
+};
 use crate::subcommand::subcommand;
 use clap::Command;
 use std::alloc::{AllocError, Global};
@@ -11,8 +13,8 @@ const DETAILS: &str = "\
 Use it to check an answer, whoever made it: a solution of a game, a lasso of an automaton, or a
 controller or a counter-strategy for a specification. It reads the answer from FILE, or from standard
 input if there is no FILE or it is -, and the game, the automaton or the specification from the file that
---game, --automaton or --specification names. It writes `yes` if the answer is right, and `no` if not.
-One of the three has to be given, and no two of them.
+--game, --automaton or --specification names; or it takes a formula from --formula, or -f. It writes `yes`
+if the answer is right, and `no` if not. One of the four has to be given, and no two of them.
 
 --game FILE checks a solution of the game in FILE. The solution is right if for each player the choices
 win from all the nodes that it gives to that player. The game is not solved: only the choices are
@@ -122,17 +124,30 @@ environment against which no system satisfies it. The automaton has the same for
 deterministic, as the specification has to be. It is right if it has a start where the specification has
 one, if in each two states that both reach by the same letters the environment has a letter so that the
 counter-strategy has an edge for every answer of the system for which the specification has one, and if
-the specification accepts none of its words. --counter-strategy goes with --specification only.
+the specification accepts none of its words. --counter-strategy goes with --specification, or with -f.
 
   $ sed 's/controllable-AP: 1/controllable-AP:/' arbiter.hoa > impossible.hoa
   $ omega realize --controller impossible.hoa > counter.hoa
   $ omega verify --specification impossible.hoa --counter-strategy counter.hoa
   yes
 
-If both texts are at fault, the fault of the game, the automaton or the specification is reported. With
---verbose another line says which text has the fault: `omega: in the game` or `omega: in the solution`,
-`omega: in the automaton` or `omega: in the lasso`, and `omega: in the specification`,
-`omega: in the controller` or `omega: in the counter-strategy`.
+--formula, or -f, gives a formula in place of the specification, written as for `omega ltl`. --outs lists
+the names of its propositions that the system controls, and --ins those that the environment controls, as
+for `omega realize`; one of the two is enough. The controller is right if it has a start, if in each state
+that it can reach it has an edge for every letter of the environment, and if each of its words satisfies
+the formula. With --counter-strategy none of its words may satisfy it. Propositions that the formula does
+not mention are the environment's. If the automaton has the item `controllable-AP:`, this has to list
+exactly its propositions that the system controls.
+
+  $ omega realize --controller -f 'G(request -> X grant)' --outs grant > controller.hoa
+  $ omega verify -f 'G(request -> X grant)' --outs grant controller.hoa
+  yes
+
+If both texts are at fault, the fault of the game, the automaton, the specification or the formula is
+reported. With --verbose another line says which text has the fault: `omega: in the game` or
+`omega: in the solution`, `omega: in the automaton` or `omega: in the lasso`, and
+`omega: in the specification` or `omega: in the formula`, `omega: in the controller` or
+`omega: in the counter-strategy`.
 
   $ echo 'paritysol 2; 0 0 2; 1 0; 2 0' | omega verify --game game.pg
   omega: 3 Syntax at 29
@@ -156,9 +171,16 @@ const OPTIONS: &[OptionHelp] = &[
         help: "Judge a controller for the specification in this file",
     },
     OptionHelp {
+        name: "formula",
+        value: Value::OptionalLettered('f', "FORMULA"),
+        help: "Judge a controller for this formula, as `omega ltl` reads one",
+    },
+    OUTS,
+    INS,
+    OptionHelp {
         name: "counter-strategy",
         value: Value::None,
-        help: "With --specification, judge a counter-strategy in place of a controller",
+        help: "With --specification or --formula, judge a counter-strategy in place of a controller",
     },
     OptionHelp {
         name: "winners",

@@ -24,3 +24,8 @@ unset (Some text) is set = cc
 pub some_read : {A : Type 0} (reads : A → List ℕ) (option : Option A) → is_some option ≡ true → option_map reads option ≢ None
 some_read reads None there none = cc
 some_read reads (Some text) there none = cc
+
+-- one that is not there has none
+pub none_read : {A : Type 0} (reads : A → List ℕ) (option : Option A) → is_some option ≡ false → option_map reads option ≡ None
+none_read reads None none = refl
+none_read reads (Some text) none = cc

@@ -31,6 +31,8 @@ IsUsed name.Word options = GivesFlag (text_of name.Word options) true
 IsUsed name.WordText options = text_of name.WordText options ≢ None
 IsUsed name.ForSome options = GivesFlag (text_of name.ForSome options) true
 IsUsed name.Formula options = text_of name.Formula options ≢ None
+IsUsed name.Outs options = text_of name.Outs options ≢ None
+IsUsed name.Ins options = text_of name.Ins options ≢ None
 IsUsed name.Negated options = GivesFlag (text_of name.Negated options) true
 IsUsed name.Deterministic options = GivesFlag (text_of name.Deterministic options) true
 IsUsed name.Status options = GivesFlag (text_of name.Status options) true
@@ -59,8 +61,9 @@ IsUsed name.File options = text_of name.File options ≢ None
 -- `empty` makes no lifts. The progress of a stream is not reported. `verify` judges one thing, and only a game has
 -- parts, winners and names. Wrong winners are shown by no walk. One of a solution and a walk is drawn. The game of
 -- `realize` is written without being solved. `ltl` has one formula, that of the option or that of a file, and makes its
--- negation not deterministic. `equal` compares with a file or with formulas, and `satisfies` is asked of a word, or of
--- the automaton or the stream of a file
+-- negation not deterministic. `realize` decides the formula of the option, without lifting, or the automaton of a
+-- file. `equal` compares with a file or with formulas, and `satisfies` is asked of a word, or of the automaton or the
+-- stream of a file
 abbrev pub IsApartFrom : OptionName → Subcommand → OptionName → Type 0
 IsApartFrom name.Search subcommand option =
     ((subcommand ≡ sub.Solve) × (option ≡ name.Player))
@@ -77,6 +80,11 @@ IsApartFrom name.Solution subcommand option = (subcommand ≡ sub.Draw) × (opti
 IsApartFrom name.Controller subcommand option = (subcommand ≡ sub.Realize) × (option ≡ name.AsGame)
 IsApartFrom name.Formula subcommand option = ((subcommand ≡ sub.Ltl) × (option ≡ name.File))
     ⊎ ((subcommand ≡ sub.Equal) × (option ≡ name.To))
+    ⊎ ((subcommand ≡ sub.Realize) × ((option ≡ name.File) ⊎ (option ≡ name.Lift)
+    ⊎ (option ≡ name.Budget) ⊎ (option ≡ name.Progress)))
+    ⊎ ((subcommand ≡ sub.Verify) × ((option ≡ name.Specification) ⊎ (option ≡ name.Automaton)
+    ⊎ (option ≡ name.Game) ⊎ (option ≡ name.From) ⊎ (option ≡ name.Winners) ⊎ (option ≡ name.Names)
+    ⊎ (option ≡ name.Lenient)))
 IsApartFrom name.Negated subcommand option = (subcommand ≡ sub.Ltl) × (option ≡ name.Deterministic)
 IsApartFrom name.WordText subcommand option =
     (subcommand ≡ sub.Satisfies) × ((option ≡ name.File) ⊎ (option ≡ name.Stream))
@@ -92,7 +100,8 @@ pub record IsConflict (subcommand : Subcommand) (options : Options)
 
 -- the option of the subcommand that has to be given if this one is. The steps of a depth are counted from a node, and a
 -- legend is of a solution, or of a walk that is drawn in place of one. Names are those of an explanation, and a
--- counter-strategy is one for a specification. The lifts of `realize` are bounded and reported only if it lifts. A
+-- counter-strategy is one for a specification, or for a formula in its place. The propositions of a formula are parted
+-- by one list or by both, and no others are. The lifts of `realize` are bounded and reported only if it lifts. A
 -- searcher and an effort are those of a search
 abbrev pub IsNeededBy : OptionName → Subcommand → Options → OptionName → Type 0
 IsNeededBy name.Depth subcommand options option = (subcommand ≡ sub.Draw) × (option ≡ name.From)
@@ -100,7 +109,14 @@ IsNeededBy name.Legend subcommand options option =
     (subcommand ≡ sub.Draw) × (option ≡ name.Solution) × (text_of name.Walk options ≡ None)
 IsNeededBy name.Names subcommand options option = (subcommand ≡ sub.Verify) × (option ≡ name.Explain)
 IsNeededBy name.CounterStrategy subcommand options option =
-    (subcommand ≡ sub.Verify) × (option ≡ name.Specification)
+    (subcommand ≡ sub.Verify) × (option ≡ name.Specification) × (text_of name.Formula options ≡ None)
+IsNeededBy name.Formula subcommand options option =
+    ((subcommand ≡ sub.Realize) ⊎ (subcommand ≡ sub.Verify)) × (option ≡ name.Outs)
+    × (text_of name.Ins options ≡ None)
+IsNeededBy name.Outs subcommand options option =
+    ((subcommand ≡ sub.Realize) ⊎ (subcommand ≡ sub.Verify)) × (option ≡ name.Formula)
+IsNeededBy name.Ins subcommand options option =
+    ((subcommand ≡ sub.Realize) ⊎ (subcommand ≡ sub.Verify)) × (option ≡ name.Formula)
 IsNeededBy name.By subcommand options option = (subcommand ≡ sub.Solve) × (option ≡ name.Search)
 IsNeededBy name.Effort subcommand options option = (subcommand ≡ sub.Solve) × (option ≡ name.Search)
 IsNeededBy name.Budget subcommand options option = (subcommand ≡ sub.Realize) × (option ≡ name.Lift)

@@ -15,7 +15,8 @@ use Rattle.omega_cli_command.specs.declared.options.OptionName.TheVariants as na
 use Rattle.omega_cli_command.specs.declared.options.Options.{Options}
 use Rattle.omega_cli_command.specs.declared.searcher_name.SearcherName.{SearcherName}
 
--- the option has to be given if the subcommand has it; the game only if no automaton and no specification is given
+-- the option has to be given if the subcommand has it; the game only if no automaton, no specification and no formula
+-- is given
 abbrev pub IsRequired : OptionName → Options → Type 0
 IsRequired name.Format options = Unit {0}
 IsRequired name.Player options = ⊥
@@ -26,6 +27,7 @@ IsRequired name.By options = ⊥
 IsRequired name.Effort options = ⊥
 IsRequired name.Game options =
     (text_of name.Automaton options ≡ None) × (text_of name.Specification options ≡ None)
+    × (text_of name.Formula options ≡ None)
 IsRequired name.Automaton options = ⊥
 IsRequired name.Specification options = ⊥
 IsRequired name.CounterStrategy options = ⊥
@@ -35,6 +37,8 @@ IsRequired name.Word options = ⊥
 IsRequired name.WordText options = Unit {0}
 IsRequired name.ForSome options = ⊥
 IsRequired name.Formula options = Unit {0}
+IsRequired name.Outs options = ⊥
+IsRequired name.Ins options = ⊥
 IsRequired name.Negated options = ⊥
 IsRequired name.Deterministic options = ⊥
 IsRequired name.Status options = ⊥
@@ -78,6 +82,8 @@ StandsForNothing name.Word text = (flag : Bool) → IsTruthText text flag → �
 StandsForNothing name.WordText text = ⊥
 StandsForNothing name.ForSome text = (flag : Bool) → IsTruthText text flag → ⊥
 StandsForNothing name.Formula text = ⊥
+StandsForNothing name.Outs text = ⊥
+StandsForNothing name.Ins text = ⊥
 StandsForNothing name.Negated text = (flag : Bool) → IsTruthText text flag → ⊥
 StandsForNothing name.Deterministic text = (flag : Bool) → IsTruthText text flag → ⊥
 StandsForNothing name.Status text = (flag : Bool) → IsTruthText text flag → ⊥

@@ -22,6 +22,7 @@ pub record IsForGames (subcommand : Subcommand) (options : Options) : Type 0 whe
       → (text_of name.Format options ≡ None) ⊎ (text_of name.Format options ≡ Some (codes "pg"))
   pub no_automaton : subcommand ≡ sub.Verify → text_of name.Automaton options ≡ None
   pub unspecified : subcommand ≡ sub.Verify → text_of name.Specification options ≡ None
+  pub no_formula : subcommand ≡ sub.Verify → text_of name.Formula options ≡ None
 
 -- the text that an option has with `--lenient`: the format is that of games, also if it is left out
 abbrev pub text_for_games : OptionName → Options → Option (List ℕ)

@@ -11,6 +11,7 @@ pub mod OneText
 pub mod Stream
 pub mod TwoTexts
 pub mod Formulas
+pub mod Partition
 pub mod Leniency
 pub mod Task
 pub mod Request

@@ -2,7 +2,8 @@
 use Rattle.std.specs.Prelude.{◌≡◌, ◌⊎◌, true, false, Some, None}
 use Rattle.omega_cli_command.specs.Formats.{AsksOfEither}
 use Rattle.omega_cli_command.specs.Options.{GivesEmptyLines, GivesFormat, GivesNoDrawn, GivesNoLifting}
-use Rattle.omega_cli_command.specs.Options.{GivesNoSearching, GivesNode, GivesPart, text_of}
+use Rattle.omega_cli_command.specs.Options.{GivesNoFormula, GivesNoSearching, GivesNode, GivesPart}
+use Rattle.omega_cli_command.specs.Options.{text_of}
 use Rattle.omega_cli_command.specs.Values.{Gives, GivesEffort, GivesFlag, IsPlayerText, IsSearcherText}
 use Rattle.omega_cli_command.specs.declared.format.Format.TheVariants.{Hoa, Pg}
 use Rattle.omega_cli_command.specs.declared.one_text.OneText.{OneText}
@@ -61,15 +62,15 @@ AsksOneText subcommand options one.LtlDeterministic = (subcommand ≡ sub.Ltl)
 AsksOneText subcommand options (one.Realize controller) =
     (subcommand ≡ sub.Realize) × GivesFlag (text_of name.Lift options) false
     × GivesNoLifting options × GivesFlag (text_of name.AsGame options) false
-    × GivesFlag (text_of name.Controller options) controller
+    × GivesFlag (text_of name.Controller options) controller × GivesNoFormula options
 AsksOneText subcommand options (one.RealizeByLifting controller) =
     (subcommand ≡ sub.Realize) × GivesFlag (text_of name.Lift options) true
     × GivesFlag (text_of name.AsGame options) false
-    × GivesFlag (text_of name.Controller options) controller
+    × GivesFlag (text_of name.Controller options) controller × GivesNoFormula options
 AsksOneText subcommand options one.RealizabilityGame =
     (subcommand ≡ sub.Realize) × GivesFlag (text_of name.Lift options) false
     × GivesNoLifting options × GivesFlag (text_of name.AsGame options) true
-    × GivesFlag (text_of name.Controller options) false
+    × GivesFlag (text_of name.Controller options) false × GivesNoFormula options
 AsksOneText subcommand options one.DrawGame =
     GivesFormat options Pg × AsksOfEither subcommand options one.DrawGame
 AsksOneText subcommand options (one.DrawPart from depth) =

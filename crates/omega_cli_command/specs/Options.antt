@@ -33,6 +33,8 @@ text_of name.Word options = option_map (λ text. text.now) options.word
 text_of name.WordText options = option_map (λ text. text.now) options.word_text
 text_of name.ForSome options = option_map (λ text. text.now) options.for_some
 text_of name.Formula options = slice_get (formulas_of options) 0
+text_of name.Outs options = option_map (λ text. text.now) options.outs
+text_of name.Ins options = option_map (λ text. text.now) options.ins
 text_of name.Negated options = option_map (λ text. text.now) options.negated
 text_of name.Deterministic options =
     option_map (λ text. text.now) options.deterministic
@@ -91,6 +93,11 @@ GivesEmptyLines options word names =
 abbrev pub GivesNoLifting : Options → Type 0
 GivesNoLifting options =
     (text_of name.Budget options ≡ None) × GivesFlag (text_of name.Progress options) false
+
+-- no option is given that goes with a formula
+abbrev pub GivesNoFormula : Options → Type 0
+GivesNoFormula options = (text_of name.Formula options ≡ None)
+    × (text_of name.Outs options ≡ None) × (text_of name.Ins options ≡ None)
 
 -- no option is given that goes with the search of a game
 abbrev pub GivesNoSearching : Options → Type 0

@@ -44,7 +44,8 @@ IsNumberReason least most text reason.NoFormat = ⊥
 IsNumberReason least most text reason.NoSearcher = ⊥
 IsNumberReason least most text reason.NoTruth = ⊥
 
--- why a text is no value of an option; every text names a file, and may be that of a word or of a formula
+-- why a text is no value of an option; every text names a file, lists names, and may be that of a word or of a
+-- formula
 abbrev pub IsReason : OptionName → List ℕ → Reason → Type 0
 IsReason name.Format text why = why ≡ reason.NoFormat
 IsReason name.Player text why = IsNumberReason 0 1 text why
@@ -63,6 +64,8 @@ IsReason name.Word text why = why ≡ reason.NoTruth
 IsReason name.WordText text why = ⊥
 IsReason name.ForSome text why = why ≡ reason.NoTruth
 IsReason name.Formula text why = ⊥
+IsReason name.Outs text why = ⊥
+IsReason name.Ins text why = ⊥
 IsReason name.Negated text why = why ≡ reason.NoTruth
 IsReason name.Deterministic text why = why ≡ reason.NoTruth
 IsReason name.Status text why = why ≡ reason.NoTruth

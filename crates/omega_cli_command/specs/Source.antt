@@ -16,9 +16,11 @@ GivesOperand None (source.File name) = ⊥
 GivesOperand (Some text) (source.File name) = (text ≡ string_bytes name) × (text ≢ codes "-")
 GivesOperand operand (source.Given text) = ⊥
 
--- the text that the command line has in place of the input: the formula of `ltl`, or the word of `satisfies`
+-- the text that the command line has in place of the input: the formula of `ltl` or of `realize`, or the word of
+-- `satisfies`
 abbrev pub given_text : Subcommand → Options → Option (List ℕ)
 given_text sub.Ltl options = text_of name.Formula options
+given_text sub.Realize options = text_of name.Formula options
 given_text sub.Satisfies options = text_of name.WordText options
 given_text other options = None
 

@@ -54,7 +54,9 @@ HasOption subcommand name.Word = subcommand ≡ sub.Empty
 HasOption subcommand name.WordText = (subcommand ≡ sub.Accepts) ⊎ (subcommand ≡ sub.Satisfies)
 HasOption subcommand name.ForSome = subcommand ≡ sub.Accepts
 HasOption subcommand name.Formula = (subcommand ≡ sub.Satisfies) ⊎ (subcommand ≡ sub.Ltl)
-    ⊎ (subcommand ≡ sub.Equal)
+    ⊎ (subcommand ≡ sub.Equal) ⊎ (subcommand ≡ sub.Realize) ⊎ (subcommand ≡ sub.Verify)
+HasOption subcommand name.Outs = (subcommand ≡ sub.Realize) ⊎ (subcommand ≡ sub.Verify)
+HasOption subcommand name.Ins = (subcommand ≡ sub.Realize) ⊎ (subcommand ≡ sub.Verify)
 HasOption subcommand name.Negated = subcommand ≡ sub.Ltl
 HasOption subcommand name.Deterministic = subcommand ≡ sub.Ltl
 HasOption subcommand name.Status = subcommand ≡ sub.Empty

@@ -5,6 +5,7 @@ use Rattle.omega_cli_command.specs.Formulas.{AsksFormulas}
 use Rattle.omega_cli_command.specs.Leniency.{IsForGames, MeansForGames}
 use Rattle.omega_cli_command.specs.OneText.{AsksOneText}
 use Rattle.omega_cli_command.specs.Options.{text_of}
+use Rattle.omega_cli_command.specs.Partition.{AsksFormulaJudge, AsksSynthesis}
 use Rattle.omega_cli_command.specs.Stream.{AsksStream}
 use Rattle.omega_cli_command.specs.TwoTexts.{AsksTwoTexts}
 use Rattle.omega_cli_command.specs.Values.{GivesBudget, GivesFlag}
@@ -25,6 +26,10 @@ AsksCommand false subcommand options (command.TwoTexts asked other) =
     AsksTwoTexts subcommand options asked other
 AsksCommand false subcommand options (command.Formulas asked formulas) =
     AsksFormulas subcommand options asked formulas.items
+AsksCommand false subcommand options (command.Synthesis asked partition) =
+    AsksSynthesis subcommand options asked partition
+AsksCommand false subcommand options (command.FormulaJudge asked other partition) =
+    AsksFormulaJudge subcommand options asked other partition
 AsksCommand true subcommand options (command.OneText asked) =
     LeavesFormat subcommand options × AsksOfEither subcommand options asked
 AsksCommand true subcommand options other = ⊥

@@ -1,6 +1,6 @@
 -- What a subcommand asks for that reads two texts, and where the other of them comes from.
 use Rattle.std.specs.Prelude.{◌≡◌, Bool, true, false, List, Option, Some, None, ℕ, string_bytes}
-use Rattle.omega_cli_command.specs.Options.{GivesFormat, GivesNode, GivesPart, text_of}
+use Rattle.omega_cli_command.specs.Options.{GivesFormat, GivesNoFormula, GivesNode, GivesPart, text_of}
 use Rattle.omega_cli_command.specs.Values.{GivesFlag}
 use Rattle.omega_cli_command.specs.declared.format.Format.TheVariants.{Pg}
 use Rattle.omega_cli_command.specs.declared.options.OptionName.TheVariants as name
@@ -29,7 +29,7 @@ HasOther (Some given) (other.Given text) = given ≡ string_bytes text
 abbrev pub AsksOfGame : Options → (from : Option ℕ) → (explain : Bool) → Other → Type 0
 AsksOfGame options from explain source = NamesOther (text_of name.Game options) source
     × (text_of name.Automaton options ≡ None) × (text_of name.Specification options ≡ None)
-    × GivesFlag (text_of name.CounterStrategy options) false
+    × GivesFlag (text_of name.CounterStrategy options) false × GivesNoFormula options
     × GivesNode options from × GivesFlag (text_of name.Explain options) explain
 
 -- `verify`, with these options, asks whether what the input has is right for the specification of a file
@@ -38,6 +38,7 @@ AsksOfSpecification options explain source = NamesOther (text_of name.Specificat
     × (text_of name.Game options ≡ None) × (text_of name.Automaton options ≡ None)
     × (text_of name.From options ≡ None) × GivesFlag (text_of name.Winners options) false
     × GivesFlag (text_of name.Names options) false × GivesFlag (text_of name.Explain options) explain
+    × GivesNoFormula options
 
 -- `draw`, with these options, asks for a game, or the part that the node `from` reaches, and for what this option
 -- names to be drawn in it, but not what the other does
@@ -62,7 +63,7 @@ AsksTwoTexts subcommand options (two.VerifyWinners from explain) source =
 AsksTwoTexts subcommand options (two.VerifyLasso explain) source = (subcommand ≡ sub.Verify)
     × NamesOther (text_of name.Automaton options) source × (text_of name.Game options ≡ None)
     × (text_of name.Specification options ≡ None) × (text_of name.From options ≡ None)
-    × GivesFlag (text_of name.CounterStrategy options) false
+    × GivesFlag (text_of name.CounterStrategy options) false × GivesNoFormula options
     × GivesFlag (text_of name.Winners options) false × GivesFlag (text_of name.Names options) false
     × GivesFlag (text_of name.Explain options) explain
 AsksTwoTexts subcommand options (two.VerifyController explain) source =

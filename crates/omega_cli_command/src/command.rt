@@ -1,10 +1,13 @@
 ghost use Rattle.std.specs.Prelude.{◌≡◌};
 ghost use Rattle.omega_cli_command.specs.Formats.{for_automata};
 
+use crate::formula_judge::FormulaJudge;
 use crate::formulas::Formulas;
 use crate::one_text::OneText;
 use crate::other::Other;
+use crate::partition::Partition;
 use crate::stream::Stream;
+use crate::synthesis::Synthesis;
 use crate::two_texts::TwoTexts;
 use omega_text::ByteString;
 
@@ -19,6 +22,10 @@ pub enum Command {
     TwoTexts(TwoTexts, Other),
     /// Reads these texts of formulas, at least one, and the text of the input.
     Formulas(Formulas, Vec<ByteString>),
+    /// Reads the text of a formula, whose propositions are parted so.
+    Synthesis(Synthesis, Partition),
+    /// Reads the text of the input and the other, which is that of a formula, whose propositions are parted so.
+    FormulaJudge(FormulaJudge, Other, Partition),
 }
 
 impl Command {

@@ -67,6 +67,9 @@ fn demand_game<'a>(options: &Options<'_, 'a>) -> Result<(), Mistake<'a>>
     if options.specification.is_some() {
         return Err(Mistake::Conflict(OptionName::Specification, OptionName::Lenient));
     }
+    if options.first_formula().is_some() {
+        return Err(Mistake::Conflict(OptionName::Formula, OptionName::Lenient));
+    }
     Ok(())
 }
 

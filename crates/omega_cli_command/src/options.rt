@@ -26,6 +26,8 @@ pub enum OptionName {
     /// The flag `--some`.
     ForSome,
     Formula,
+    Outs,
+    Ins,
     Negated,
     Deterministic,
     Status,
@@ -73,6 +75,8 @@ impl fmt::Display for OptionName {
             OptionName::WordText => "--word <WORD>",
             OptionName::ForSome => "--some",
             OptionName::Formula => "--formula <FORMULA>",
+            OptionName::Outs => "--outs <NAMES>",
+            OptionName::Ins => "--ins <NAMES>",
             OptionName::Negated => "--negated",
             OptionName::Deterministic => "--deterministic",
             OptionName::Status => "--status",
@@ -137,6 +141,10 @@ pub struct Options<'m, 'a> {
     pub for_some: Option<&'a str>,
     /// The texts of the formulas, in the order in which they are given.
     pub formulas: Option<&'m [&'a str]>,
+    /// The names of the propositions that the system controls, with commas between them.
+    pub outs: Option<&'a str>,
+    /// The names of those that the environment controls, with commas between them.
+    pub ins: Option<&'a str>,
     /// As `search`.
     pub negated: Option<&'a str>,
     /// As `search`.

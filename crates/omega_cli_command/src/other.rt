@@ -10,7 +10,7 @@ use std::alloc::Global;
 pub enum Other {
     /// The file of this name.
     File(String),
-    /// The command line, which has this text of a word.
+    /// The command line, which has this text of a word or of a formula.
     Given(String),
 }
 
@@ -26,7 +26,7 @@ impl Other {
         }
     }
 
-    /// Returns this text of a word.
+    /// Returns this text, of a word or of a formula.
     pub(crate) fn given<'a>(alloc: Global, text: &str) -> Result<Other, Mistake<'a>>
         ensures given { IfOk result (HasOther (Some text.now)) }
         ensures memory { IfErr result (λ found. found ≡ mistake.Memory) }

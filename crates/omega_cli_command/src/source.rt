@@ -23,8 +23,8 @@ pub enum Source {
 /// The operand that names standard input.
 const STANDARD_INPUT: &str = "-";
 
-/// Returns the source of the input: the formula of `ltl`, or the word of `satisfies`, if the command line has it, or
-/// else the file that the operand names, or standard input.
+/// Returns the source of the input: the formula of `ltl` or of `realize`, or the word of `satisfies`, if the command
+/// line has it, or else the file that the operand names, or standard input.
 pub(crate) fn source_in<'a>(
     alloc: Global,
     subcommand: Subcommand,
@@ -34,7 +34,9 @@ pub(crate) fn source_in<'a>(
     ensures memory { IfErr result (λ found. found ≡ mistake.Memory) }
 {
     match subcommand {
-        Subcommand::Ltl => text_source(alloc, options.first_formula(), options),
+        Subcommand::Ltl | Subcommand::Realize => {
+            text_source(alloc, options.first_formula(), options)
+        }
         Subcommand::Satisfies => text_source(alloc, options.word_text, options),
         _ => operand_source(alloc, options),
     }

@@ -8,12 +8,14 @@ mod check;
 mod draw;
 mod empty;
 mod formats;
+mod formula_judge;
 mod formula_texts;
 mod ltl;
 mod realize;
 mod satisfies;
 mod show;
 mod solve;
+mod synthesis;
 mod transform;
 mod two_automata;
 mod verify;
@@ -64,7 +66,7 @@ pub(crate) fn task_for<'a>(
         Subcommand::Complement => complement_task(options),
         Subcommand::Trim => trim_task(options),
         Subcommand::Ltl => ltl_task(options),
-        Subcommand::Realize => realize_task(options),
+        Subcommand::Realize => realize_task(alloc, options),
         Subcommand::Draw => draw_task(alloc, options),
     }
 }

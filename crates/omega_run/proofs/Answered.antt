@@ -1,4 +1,4 @@
--- What a command makes of its texts, from what it makes of one text, of a stream, or of two.
+-- What a command makes of its texts, from what it makes of one text, of a stream, of two, or of a formula.
 use Rattle.std.specs.Global.{Global}
 use Rattle.std.proofs.Common.{◌≡◌, ◌⊎◌, ℕ, ◌+◌, ◌≤◌, Bool, List, length, Option, None, Some, Result, Ok, Err, IfOk, IfErr, Vec, ap, inl, inr, refl, subst}
 use Rattle.omega_text.specs.Cases.{never, or_memory}
@@ -6,10 +6,13 @@ use Rattle.omega_text.specs.Limits.{most_text}
 use Rattle.omega_text.specs.declared.refusal.Refusal.{Refusal}
 use Rattle.omega_text.specs.declared.refusal.Refusal.TheVariants.{Automaton, Circuit, Game, Io, Memory, Task, Text}
 use Rattle.omega_cli_command.specs.declared.command.Command.TheVariants as command
+use Rattle.omega_cli_command.specs.declared.formula_judge.FormulaJudge.{FormulaJudge}
 use Rattle.omega_cli_command.specs.declared.formulas.Formulas.{Formulas}
 use Rattle.omega_cli_command.specs.declared.one_text.OneText.{OneText}
 use Rattle.omega_cli_command.specs.declared.other.Other.{Other}
+use Rattle.omega_cli_command.specs.declared.partition.Partition.{Partition}
 use Rattle.omega_cli_command.specs.declared.stream.Stream.{Stream}
+use Rattle.omega_cli_command.specs.declared.synthesis.Synthesis.{Synthesis}
 use Rattle.omega_cli_command.specs.declared.two_texts.TwoTexts.{TwoTexts}
 use Rattle.omega_cli_command.specs.declared.two_texts.TwoTexts.TheVariants.{ContainedStream}
 use Rattle.omega_answers.specs.Alone.{IsAutomatonRefusal}
@@ -27,6 +30,8 @@ use Rattle.omega_run.specs.OneText.{AnswersOneText}
 use Rattle.omega_run.specs.Pieces.{IsStreamRefusal, Responds}
 use Rattle.omega_run.specs.Results.{of_input, plain, with_bytes}
 use Rattle.omega_run.specs.Streams.{AnswersStream}
+use Rattle.omega_run.specs.FormulaJudge.{AnswersFormulaJudge, RefusesFormulaJudge}
+use Rattle.omega_run.specs.Synthesis.{AnswersSynthesis, lists_in}
 use Rattle.omega_run.specs.TwoTexts.{AnswersTwoTexts, RefusesTwoTexts}
 use Rattle.omega_run.proofs.Cut.{holds_of_read, holds_of_whole}
 
@@ -83,6 +88,21 @@ module _ {T : Type 0} (bytes_of : T → List ℕ) (budget : ℕ) (read : Texts) 
       → IsAnswer (command.Formulas asked formulas) budget read (with_bytes bytes_of result)
   formulas_answer asked formulas (Ok made) answered refused = answered
   formulas_answer asked formulas (Err refusal) answered refused = refused
+
+  pub synthesis_answer : (asked : Synthesis) (partition : Partition) (result : Result (Exit × T) Refusal)
+      → IfOk result (λ made. AnswersSynthesis asked (lists_in partition) read.input (Ok (made.0, bytes_of made.1)))
+      → IfErr result (or_memory (λ refusal. AnswersSynthesis asked (lists_in partition) read.input (Err refusal)))
+      → failures_of result ≡ 0 → IsAnswer (command.Synthesis asked partition) budget read (with_bytes bytes_of (of_input result))
+  synthesis_answer asked partition (Ok made) answered refused none = answered
+  synthesis_answer asked partition (Err refusal) answered refused none =
+      about_input (λ refusal. AnswersSynthesis asked (lists_in partition) read.input (Err refusal)) refusal refused none
+
+  pub formula_judge_answer : (asked : FormulaJudge) (from : Other) (partition : Partition) (result : Result (Exit × T) Refused)
+      → IfOk result (λ made. AnswersFormulaJudge asked (lists_in partition) read.other read.input made.0 (bytes_of made.1))
+      → IfErr result (RefusesFormulaJudge asked (lists_in partition) read.other read.input)
+      → IsAnswer (command.FormulaJudge asked from partition) budget read (with_bytes bytes_of result)
+  formula_judge_answer asked from partition (Ok made) answered refused = answered
+  formula_judge_answer asked from partition (Err refusal) answered refused = refused
 
 -- which text a refusal is about is left out again
 about_input_plain : (refusal : Refusal) → (about Input refusal).refusal ≡ refusal

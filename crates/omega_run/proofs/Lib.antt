@@ -6,3 +6,5 @@ pub mod ProgressLines
 pub mod Reported
 pub mod ReportedLines
 pub mod Telling
+pub mod Unfailed
+pub mod ReadWhole

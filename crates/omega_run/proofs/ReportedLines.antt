@@ -105,3 +105,7 @@ command_lines held failed every budget sound before after fits same (command.Two
     no_lines held failed every budget sound read.input before after fits same kept
 command_lines held failed every budget sound before after fits same (command.Formulas asked formulas) read made kept =
     no_lines held failed every budget sound read.input before after fits same kept
+command_lines held failed every budget sound before after fits same (command.Synthesis asked partition) read made kept =
+    no_lines held failed every budget sound read.input before after fits same kept
+command_lines held failed every budget sound before after fits same (command.FormulaJudge asked from partition) read made kept =
+    no_lines held failed every budget sound read.input before after fits same kept

@@ -2,13 +2,16 @@
 use Rattle.std.specs.Prelude.{List, Result, Ok, Err, ℕ}
 use Rattle.omega_text.specs.Cases.{never}
 use Rattle.omega_cli_command.specs.declared.command.Command.{Command}
-use Rattle.omega_cli_command.specs.declared.command.Command.TheVariants.{Formulas, OneText, Stream, TwoTexts}
+use Rattle.omega_cli_command.specs.declared.command.Command.TheVariants.{FormulaJudge, Formulas, OneText, Stream}
+use Rattle.omega_cli_command.specs.declared.command.Command.TheVariants.{Synthesis, TwoTexts}
 use Rattle.omega_io.specs.declared.exit.Exit.{Exit}
 use Rattle.omega_io.specs.declared.refused.Refused.{Refused}
 use Rattle.omega_io.specs.Refused.{IsRefusedOf}
 use Rattle.omega_run.specs.Formulas.{AnswersFormulas, IsUnnumbered, RefusesFormulas}
 use Rattle.omega_run.specs.OneText.{AnswersOneText}
 use Rattle.omega_run.specs.Streams.{AnswersStream}
+use Rattle.omega_run.specs.FormulaJudge.{AnswersFormulaJudge, RefusesFormulaJudge}
+use Rattle.omega_run.specs.Synthesis.{AnswersSynthesis, lists_in}
 use Rattle.omega_run.specs.TwoTexts.{AnswersTwoTexts, RefusesTwoTexts}
 
 -- the texts of a command: that of the input, and another, which a command of one text does not look at
@@ -28,6 +31,10 @@ IsReply (TwoTexts two from) budget read exit output =
     AnswersTwoTexts two read.other read.input exit output
 IsReply (Formulas asked formulas) budget read exit output =
     AnswersFormulas asked formulas.items read.input exit output
+IsReply (Synthesis asked partition) budget read exit output =
+    AnswersSynthesis asked (lists_in partition) read.input (Ok (exit, output))
+IsReply (FormulaJudge asked from partition) budget read exit output =
+    AnswersFormulaJudge asked (lists_in partition) read.other read.input exit output
 
 -- why the texts are refused, and which of them that is about; or memory is wanting
 abbrev pub IsRefused : Command → ℕ → Texts → Refused → Type 0
@@ -38,6 +45,10 @@ IsRefused (Stream stream) budget read =
 IsRefused (TwoTexts two from) budget read = RefusesTwoTexts two read.other read.input
 IsRefused (Formulas asked formulas) budget read =
     IsUnnumbered (RefusesFormulas asked formulas.items read.input)
+IsRefused (Synthesis asked partition) budget read = IsRefusedOf never
+    (λ refusal. AnswersSynthesis asked (lists_in partition) read.input (Err refusal))
+IsRefused (FormulaJudge asked from partition) budget read =
+    RefusesFormulaJudge asked (lists_in partition) read.other read.input
 
 -- what the command makes of its texts with this budget, or why it makes nothing
 abbrev pub IsAnswer : Command → ℕ → Texts → Result (Exit × List ℕ) Refused → Type 0

@@ -116,6 +116,9 @@ kind_of (command.Stream stream) Input = kind.Automata
 kind_of (command.TwoTexts two from) which = kind_of_two two which
 kind_of (command.Formulas asked formulas) File = kind.Other
 kind_of (command.Formulas asked formulas) Input = kind_asked asked
+kind_of (command.Synthesis asked partition) which = kind.Other
+kind_of (command.FormulaJudge asked from partition) File = kind.Other
+kind_of (command.FormulaJudge asked from partition) Input = kind.Automata
 
 -- the one of the texts, and the one beside it
 abbrev pub text_of : Texts → Which → List ℕ

@@ -2,7 +2,7 @@
 use Rattle.std.specs.Prelude.{◌≡◌, ◌⊎◌, Bool, true, false, List, [], ℕ, Option, Some, None, string_bytes}
 use Rattle.omega_text.specs.declared.refusal.Refusal.{Refusal}
 use Rattle.omega_cli_command.specs.declared.command.Command.{Command}
-use Rattle.omega_cli_command.specs.declared.command.Command.TheVariants.{TwoTexts}
+use Rattle.omega_cli_command.specs.declared.command.Command.TheVariants.{FormulaJudge, TwoTexts}
 use Rattle.omega_cli_command.specs.declared.other.Other.TheVariants as other
 use Rattle.omega_cli_command.specs.declared.source.Source.{Source}
 use Rattle.omega_cli_command.specs.declared.source.Source.TheVariants.{File, Given, Input}
@@ -21,6 +21,7 @@ operand_file (Given text) = None
 -- that of the file that has the other text, if one has it
 abbrev pub other_file : Command → Option (List ℕ)
 other_file (TwoTexts two (other.File name)) = Some (string_bytes name)
+other_file (FormulaJudge asked (other.File name) partition) = Some (string_bytes name)
 other_file command = None
 
 -- the file of this name was read as this text, if there is a name
@@ -56,6 +57,7 @@ operand_text source text = text
 -- the other text: that of its file, or of the command line
 abbrev pub other_text : Command → Option (List ℕ) → List ℕ
 other_text (TwoTexts two (other.Given given)) text = string_bytes given
+other_text (FormulaJudge asked (other.Given given) partition) text = string_bytes given
 other_text command (Some text) = text
 other_text command None = []
 

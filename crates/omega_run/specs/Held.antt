@@ -4,7 +4,7 @@ use Rattle.omega_text.specs.declared.refusal.Refusal.{Refusal}
 use Rattle.omega_answers_game.specs.declared.solve.searching.Searching.{Searching}
 use Rattle.omega_answers_game.specs.solve.SearchLines.{search_lines}
 use Rattle.omega_cli_command.specs.declared.command.Command.{Command}
-use Rattle.omega_cli_command.specs.declared.command.Command.TheVariants.{TwoTexts}
+use Rattle.omega_cli_command.specs.declared.command.Command.TheVariants.{FormulaJudge, TwoTexts}
 use Rattle.omega_cli_command.specs.declared.task.Task.{Task}
 use Rattle.omega_io.specs.declared.exit.Exit.{Exit}
 use Rattle.omega_io.specs.declared.failure.Failure.{Failure}
@@ -19,6 +19,7 @@ use Rattle.omega_run.specs.Progress.{AreProgressLines}
 use Rattle.omega_run.specs.Results.{plain, text_in}
 use Rattle.omega_run.specs.Searching.{AreTurnsFor}
 use Rattle.omega_run.specs.Report.{ReportsCause}
+use Rattle.omega_run.specs.FormulaJudge.{judged_name}
 use Rattle.omega_run.specs.TwoTexts.{name_of}
 use Rattle.omega_run.specs.World.{KeepsOutput, Written, write_failure}
 use Rattle.omega_run.specs.AnswerWriting.{IsWritten}
@@ -26,6 +27,8 @@ use Rattle.omega_run.specs.AnswerWriting.{IsWritten}
 -- the lines for the refusal of a text: one line, and with `--verbose` a second one, which names it, if it is one of two
 abbrev pub text_lines : (verbose : Bool) → Command → Which → Refusal → List ℕ
 text_lines true (TwoTexts two from) which refusal = lines_in (name_of two which) refusal
+text_lines true (FormulaJudge asked from partition) which refusal =
+    lines_in (judged_name asked which) refusal
 text_lines verbose command which refusal = line_of refusal
 
 -- the lines for a refusal that is about this text, or about none: with `--verbose` a refusal about none has a second

@@ -13,6 +13,7 @@ pub mod Causes
 pub mod Files
 pub mod Formats
 pub mod FormulaRun
+pub mod FormulaJudge
 pub mod Formulas
 pub mod Held
 pub mod Lenient
@@ -25,6 +26,7 @@ pub mod Results
 pub mod Run
 pub mod Searching
 pub mod Streams
+pub mod Synthesis
 pub mod TwoTexts
 pub mod World
 pub mod private

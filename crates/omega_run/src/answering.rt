@@ -10,6 +10,7 @@ use crate::formulas::reply_to_formulas;
 use crate::held_text::HeldText;
 use crate::one_text::answer_one_text;
 use crate::stream::answer_stream;
+use crate::synthesis::{answer_formula_judge, answer_synthesis};
 use crate::texts::Texts;
 use crate::two_texts::answer_two_texts;
 use omega_answers_game::Searching;
@@ -52,6 +53,12 @@ pub(crate) fn answer<L, T: Reporter<L>>(
         Command::Formulas(asked, formulas) => {
             let input = texts.input;
             reply_to_formulas(alloc, *asked, formulas.as_slice(), input)
+        }
+        Command::Synthesis(asked, partition) => {
+            of_input(answer_synthesis(alloc, *asked, partition, texts.input))
+        }
+        Command::FormulaJudge(asked, _, partition) => {
+            answer_formula_judge(alloc, *asked, partition, texts)
         }
     }
 }

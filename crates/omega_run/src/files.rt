@@ -68,9 +68,8 @@ fn read_other<'a, F: InputFiles>(
         (other_file command.now) refused.name.now refused.unread) }
 {
     match command {
-        Command::TwoTexts(_, Other::File(name)) => {
-            Ok(Some(read_named(alloc, name.as_str(), files)?))
-        }
+        Command::TwoTexts(_, Other::File(name)) | Command::FormulaJudge(_, Other::File(name), _) =>
+            { Ok(Some(read_named(alloc, name.as_str(), files)?)) }
         _ => Ok(None),
     }
 }
@@ -110,6 +109,7 @@ pub(crate) fn other_text<'a>(command: &'a Command, text: &'a Option<Vec<u8>>) ->
 {
     match (command, text) {
         (Command::TwoTexts(_, Other::Given(given)), _) => given.as_bytes(),
+        (Command::FormulaJudge(_, Other::Given(given), _), _) => given.as_bytes(),
         (_, Some(text)) => text.as_slice(),
         _ => b"",
     }

@@ -1,10 +1,11 @@
 //! A task is done with texts that are in memory.
-ghost use Rattle.std.specs.Prelude.{◌≡◌, ◌+◌, ◌-◌, ◌^◌, ◌<◌, ◌≤◌, length, take};
+ghost use Rattle.std.specs.Prelude.{◌≡◌, ◌+◌, ◌-◌, ◌^◌, ◌<◌, ◌≤◌, IfNone, IfSome, length, take};
+ghost use Rattle.omega_cli_command.specs.Formats.{for_automata};
 ghost use Rattle.omega_text.specs.Limits.{most_text};
 ghost use Rattle.omega_solve.specs.Limits.{most_lifts};
 ghost use Rattle.omega_run.specs.Answers.{both_texts};
 ghost use Rattle.omega_run.specs.Held.{IsAnswered, IsReadSo, IsReportedSo};
-ghost use Rattle.omega_run.specs.Obey.{IsDoneForFormat, IsDoneWithTexts};
+ghost use Rattle.omega_run.specs.Obey.{IsCommandFor, IsDoneForFormat, IsDoneWithTexts};
 ghost use Rattle.omega_io.specs.Exit.{status_of};
 ghost use Rattle.omega_run.specs.Results.{plain};
 ghost use Rattle.omega_run.specs.World.{tells_of, written_to};
@@ -57,6 +58,8 @@ pub(crate) fn run_texts<W: Output, E: Output>(
         Command::OneText(_) => run_for_format(alloc, task, texts, output, errors),
         Command::Stream(_) => run_for_format(alloc, task, texts, output, errors),
         Command::TwoTexts(_, _) => run_for_format(alloc, task, texts, output, errors),
+        Command::Synthesis(_, _) => run_for_format(alloc, task, texts, output, errors),
+        Command::FormulaJudge(_, _, _) => run_for_format(alloc, task, texts, output, errors),
     }
 }
 
@@ -76,13 +79,39 @@ fn run_for_format<W: Output, E: Output>(
         (tells_of E.Output errors.old errors.new)
         (written_to W.Output output.old) (written_to W.Output output.new) }
 {
-    let is_hoa = task.by_text && format_of(texts.input) == Format::Hoa;
-    match &task.command {
-        Command::OneText(one) if is_hoa => {
-            let command = Command::OneText(*one).for_automata();
-            run_reading(alloc, &command, task, texts, output, errors)
-        }
-        command => run_reading(alloc, command, task, texts, output, errors),
+    match command_by_text(task, texts.input) {
+        Some(command) => run_reading(alloc, &command, task, texts, output, errors),
+        None => run_reading(alloc, &task.command, task, texts, output, errors),
+    }
+}
+
+/// Returns the command for automata in place of that of a task, if the text is to tell the format and tells it so.
+fn command_by_text(task: &Task, text: &[u8]) -> Option<Command>
+    requires { length text.now ≤ most_text + 1 }
+    ensures other { IfSome result (IsCommandFor task.now task.now.by_text text.now) }
+    ensures same { IfNone result (IsCommandFor task.now task.now.by_text text.now task.now.command) }
+{
+    if !task.by_text {
+        return None;
+    }
+    match format_of(text) {
+        Format::Pg => None,
+        Format::Hoa => command_for_automata(&task.command),
+    }
+}
+
+/// Returns the command for automata in place of one for games, if there is one.
+fn command_for_automata(command: &Command) -> Option<Command>
+    ensures other { IfSome result (λ found. found ≡ for_automata command.now) }
+    ensures same { IfNone result (for_automata command.now ≡ command.now) }
+{
+    match command {
+        Command::OneText(one) => Some(Command::OneText(*one).for_automata()),
+        Command::Stream(_) => None,
+        Command::TwoTexts(_, _) => None,
+        Command::Formulas(_, _) => None,
+        Command::Synthesis(_, _) => None,
+        Command::FormulaJudge(_, _, _) => None,
     }
 }
 

@@ -19,6 +19,7 @@ mod reporting;
 mod running;
 mod searching;
 mod stream;
+mod synthesis;
 mod text_kind;
 mod texts;
 mod two_texts;
@@ -28,8 +29,8 @@ pub use held_text::HeldText;
 pub use laws::budgets_are_of_solvers;
 pub use obeying::obey;
 pub use omega_cli_command::{
-    Command, Format, Formulas, OneText, Other, Player, Request, SearcherName, Source, Stream, Task,
-    TwoTexts,
+    Command, Format, FormulaJudge, Formulas, OneText, Other, Partition, Player, Request,
+    SearcherName, Source, Stream, Synthesis, Task, TwoTexts,
 };
 pub use omega_io::{
     Exit, FromRead, HostFiles, Input, InputFiles, Output, Reason, Refusal, Refused, ToWrite,

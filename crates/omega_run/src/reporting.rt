@@ -7,10 +7,11 @@ ghost use Rattle.omega_io.specs.declared.refused.Which.TheVariants.{File, Input}
 ghost use Rattle.omega_run.specs.Held.{lines_about};
 ghost use Rattle.omega_run.specs.Files.{lines_of_file};
 ghost use Rattle.omega_run.specs.Report.{IsRefusalReported, ReportsBy};
+ghost use Rattle.omega_run.specs.FormulaJudge.{judged_name};
 ghost use Rattle.omega_run.specs.TwoTexts.{name_of};
 ghost use Rattle.omega_run.specs.World.{tells_of};
 
-use omega_cli_command::{Command, TwoTexts};
+use omega_cli_command::{Command, FormulaJudge, TwoTexts};
 use omega_io::{
     Exit, Failure, Output, Refusal, Refused, Unread, Which, exit_code, file_lines, lines_in,
     refusal_line, stream_lines, tell,
@@ -79,6 +80,9 @@ pub(crate) fn lines_about(
         Command::TwoTexts(two, _) if verbose => {
             lines_in(alloc, name_of(*two, which), refused.refusal)
         }
+        Command::FormulaJudge(asked, _, _) if verbose => {
+            lines_in(alloc, judged_name(*asked, which), refused.refusal)
+        }
         _ => line_in(alloc, refused.refusal),
     }
 }
@@ -124,6 +128,17 @@ fn names_of(command: TwoTexts) -> (&'static str, &'static str)
         | TwoTexts::Equal { .. } => ("other automaton", "automaton"),
         TwoTexts::DrawSolution { .. } => ("solution", "game"),
         TwoTexts::DrawWalk { .. } => ("walk", "game"),
+    }
+}
+
+/// Returns what one of the two texts is called, that of a formula and that of what is judged for it.
+fn judged_name(asked: FormulaJudge, which: Which) -> &'static str
+    ensures { result.now ≡ judged_name asked which }
+{
+    match (which, asked) {
+        (Which::File, _) => "formula",
+        (Which::Input, FormulaJudge::Controller { .. }) => "controller",
+        (Which::Input, FormulaJudge::CounterStrategy { .. }) => "counter-strategy",
     }
 }
 

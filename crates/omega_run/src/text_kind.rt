@@ -32,6 +32,8 @@ pub(crate) fn kind_of(command: &Command, which: Which) -> TextKind
         Command::Stream(_) => (TextKind::Other, TextKind::Automata),
         Command::TwoTexts(two, _) => kinds_of_two(*two),
         Command::Formulas(asked, _) => (TextKind::Other, kind_asked(*asked)),
+        Command::Synthesis(_, _) => (TextKind::Other, TextKind::Other),
+        Command::FormulaJudge(_, _, _) => (TextKind::Other, TextKind::Automata),
     };
     match which {
         Which::File => other,

@@ -1,7 +1,7 @@
 //! The task that `verify` requests.
 ghost use Rattle.std.specs.Prelude.{◌≡◌, IfErr, IfOk, None, Some, false};
 ghost use Rattle.omega_cli_command.specs.Mistakes.{IsMistake};
-ghost use Rattle.omega_cli_command.specs.Options.{text_of};
+ghost use Rattle.omega_cli_command.specs.Options.{GivesNoFormula, text_of};
 ghost use Rattle.omega_cli_command.specs.Task.{AsksFor};
 ghost use Rattle.omega_cli_command.specs.Values.{GivesFlag};
 ghost use Rattle.omega_cli_command.specs.declared.options.OptionName.TheVariants as name;
@@ -11,6 +11,7 @@ ghost use Rattle.omega_cli_command.specs.private.Verify.{solution_question};
 use crate::mistake::Mistake;
 use crate::options::{OptionName, Options};
 use crate::task::Task;
+use crate::tasks::formula_judge::formula_judge_task;
 use crate::two_texts::TwoTexts;
 use crate::values::{identifier_in, is_set};
 use std::alloc::Global;
@@ -24,6 +25,20 @@ pub(crate) fn verify_task<'a>(alloc: Global, options: &Options<'_, 'a>) -> Resul
     let winners = is_set(OptionName::Winners, options.winners)?;
     let names = is_set(OptionName::Names, options.names)?;
     let counter_strategy = is_set(OptionName::CounterStrategy, options.counter_strategy)?;
+    if let Some(formula) = options.first_formula() {
+        return formula_judge_task(
+            alloc,
+            options,
+            formula,
+            counter_strategy,
+            explain,
+            winners,
+            names,
+        );
+    }
+    if options.outs.is_some() || options.ins.is_some() {
+        return Err(Mistake::Missing(OptionName::Formula));
+    }
     if let Some(specification) = options.specification {
         return specified_task(
             alloc,
@@ -44,8 +59,8 @@ pub(crate) fn verify_task<'a>(alloc: Global, options: &Options<'_, 'a>) -> Resul
     solution_task(alloc, options, explain, winners, names)
 }
 
-/// Returns the task that `verify` requests with `options` that name neither an automaton nor a specification, or what
-/// is wrong with them.
+/// Returns the task that `verify` requests with `options` that name neither an automaton nor a specification and give
+/// no formula, or what is wrong with them.
 fn solution_task<'a>(
     alloc: Global,
     options: &Options<'_, 'a>,
@@ -53,6 +68,7 @@ fn solution_task<'a>(
     winners: bool,
     names: bool,
 ) -> Result<Task, Mistake<'a>>
+    requires no_formula { GivesNoFormula options.now }
     requires unspecified { text_of name.Specification options.now ≡ None }
     requires no_automaton { text_of name.Automaton options.now ≡ None }
     requires no_strategy { GivesFlag (text_of name.CounterStrategy options.now) false }
@@ -99,6 +115,7 @@ fn lasso_task<'a>(
     winners: bool,
     names: bool,
 ) -> Result<Task, Mistake<'a>>
+    requires no_formula { GivesNoFormula options.now }
     requires unspecified { text_of name.Specification options.now ≡ None }
     requires automaton { text_of name.Automaton options.now ≡ Some automaton.now }
     requires no_strategy { GivesFlag (text_of name.CounterStrategy options.now) false }
@@ -133,6 +150,7 @@ fn specified_task<'a>(
     winners: bool,
     names: bool,
 ) -> Result<Task, Mistake<'a>>
+    requires no_formula { GivesNoFormula options.now }
     requires specification { text_of name.Specification options.now ≡ Some specification.now }
     requires counter_strategy { GivesFlag (text_of name.CounterStrategy options.now) counter_strategy }
     requires explain { GivesFlag (text_of name.Explain options.now) explain }
