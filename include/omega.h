@@ -64,6 +64,7 @@ enum {
     OMEGA_NOT_DETERMINISTIC = 56,    /* two starts, or two edges of a state for one letter: `place` is the state */
     OMEGA_BAD_SHAPE = 57,            /* an entry of an array is wrong: `array` and `place` say which */
     OMEGA_CONTROLLABLE = 58,         /* the item controllable-AP: is refused, or missing */
+    OMEGA_UNJUDGED = 59,             /* what a search found is not what was asked for: a fault of the library */
     OMEGA_MEMORY = 60                /* a request for memory was refused */
 };
 
@@ -217,6 +218,10 @@ omega_text_outcome omega_formula(const uint8_t *formula, size_t formula_bytes, o
  * do not. */
 omega_text_outcome omega_ltl(const uint8_t *formula, size_t formula_bytes, uint8_t negated, omega_text *out);
 
+/* Gives a deterministic automaton that accepts exactly the words that satisfy the formula, with the acceptance parity
+ * min even. Refuses 42 too, 55 where a search or the judge of what it found passes a limit, and 59. */
+omega_text_outcome omega_ltl_deterministic(const uint8_t *formula, size_t formula_bytes, omega_text *out);
+
 /* Whether each word that the automaton of `text` accepts satisfies the formula, whose names are propositions. Writes 1
  * or 0 into `verdict`, and gives a line, `yes` or `no`. With `explain` not 0 the lines of a lasso of the automaton
  * follow `no`, with a word that does not satisfy the formula. The formula is the second text. Refuses what both texts
@@ -228,6 +233,14 @@ omega_text_outcome omega_satisfies(const uint8_t *text, size_t text_bytes, const
  * propositions that the system controls. Writes 1 into `verdict` and gives a controller, or writes 0 and gives a
  * counter-strategy of the environment, each as an automaton. Refuses 13, 14, 40, 50, 51, 55, 56 and 58 too. */
 omega_text_outcome omega_realize(const uint8_t *text, size_t text_bytes, uint32_t *verdict, omega_text *out);
+
+/* Whether some system satisfies the formula, whatever its environment does. `names` lists the names that the system
+ * controls, each ended by a NUL, as in "grant\0busy\0"; with `inputs` not 0, those that the environment controls. All
+ * others are the other side's. Writes 1 into `verdict` and gives a controller, or writes 0 and gives a counter-strategy
+ * of the environment, each as an automaton, which is judged before it is given. Refuses 13, 14, 42, 50, 51, 58 and 59
+ * too, 58 if a name is listed that the formula does not have. */
+omega_text_outcome omega_realize_formula(const uint8_t *formula, size_t formula_bytes, const uint8_t *names,
+                                         size_t name_bytes, uint8_t inputs, uint32_t *verdict, omega_text *out);
 
 /* Takes a text back, if there is one, and leaves none. */
 void omega_free(omega_text *text);

@@ -7,6 +7,7 @@ be right. This package, which hands arrays and texts to the library, is tested a
     game.solve()[0]                                 # Answer(winner=0, choice=1)
     omega.Automaton.parse(text).accepting_lasso()   # an accepting lasso with its word, or None
     omega.Automaton.parse(text).satisfies("G(request -> F grant)")  # whether each accepted word does
+    omega.Formula("G(request -> F grant)").realize(outs=["grant"])  # a controller, or a counter-strategy
 
 Games come as texts, or as arrays: the priority of each node, its owner, 0 or 1, and its successors, which are places
 of nodes from 0 to n - 1. The successors are a list for each node, or a pair of flat arrays: where the successors of

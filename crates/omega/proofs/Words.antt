@@ -1,9 +1,9 @@
 -- The words of a command line, taken off its text one by one.
-use Rattle.std.proofs.Common.{◌≡◌, ℕ, ◌+◌, ◌<◌, ◌≤◌, Bool, true, false, cond, Some, None, List, [], ◌∷◌, ◌++◌, length, take, drop, refl, sym, ap, ◌∙◌, subst, arith}
+use Rattle.std.proofs.Common.{◌≡◌, ℕ, ◌+◌, ◌-◌, ◌<◌, ◌≤◌, Bool, true, false, cond, Some, None, List, [], ◌∷◌, ◌++◌, length, take, drop, refl, sym, ap, ◌∙◌, subst, arith}
 use Rattle.std.specs.Prelude.{position}
 use Rattle.std.specs.List.{after_first, before_first, position_or_len, slice_split}
 use Rattle.std.proofs.lemmas.Bool.{ltb-false, ltb-true}
-use Rattle.std.proofs.lemmas.List.{append_assoc}
+use Rattle.std.proofs.lemmas.List.{append_assoc, length-append, take-append-le, take_all}
 use Rattle.std.proofs.lemmas.List.Splits.{length-slice_split, slice_split_first, slice_split_none}
 use Rattle.std.proofs.lemmas.List.Sums.{fails_before_first}
 
@@ -44,3 +44,9 @@ one_word p pieces words rest word end so_far found is =
     so_far ∙ ap (λ (parts : List (List ℕ)). words ++ parts) ((split_at_first p rest end found).1)
     ∙ ap (λ (w : List ℕ). words ++ w ∷ slice_split p (drop (end + 1) rest)) (sym is)
     ∙ sym (append_assoc words (word ∷ []) (slice_split p (drop (end + 1) rest)))
+
+-- all pieces but the last are those before it
+pub all_but_last : (pieces names : List (List ℕ)) (last : List ℕ) → pieces ≡ names ++ last ∷ [] → names ≡ take (length pieces - 1) pieces
+all_but_last pieces names last split =
+    let count : length pieces - 1 ≡ length names = omega (ap length split, length-append names (last ∷ []), arith) in
+    sym (ap (λ (n : ℕ). take n pieces) count ∙ ap (take (length names)) split ∙ take-append-le (length names) names (last ∷ []) (omega arith) ∙ take_all (length names) names (omega arith))

@@ -8,3 +8,4 @@ pub mod Solving
 pub mod Verifying
 pub mod Bounding
 pub mod Running
+pub mod Synthesis

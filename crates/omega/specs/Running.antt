@@ -10,7 +10,7 @@ use Rattle.omega_cli_command.specs.declared.request.Request.TheVariants.{Fault}
 use Rattle.omega_io.specs.Writing.{Tells}
 use Rattle.omega_io.specs.declared.unread.Unread.{Unread}
 use Rattle.omega_run.specs.Obey.{IsObeyed}
-use Rattle.omega_run.specs.World.{Streams, World, streams}
+use Rattle.omega_run.specs.World.{Streams, streams}
 use Rattle.omega_cli.specs.Words.{IsRequested}
 use Rattle.omega_arrays.specs.Room.{laid_over}
 use Rattle.omega.specs.declared.running.Ran.{Ran}

@@ -1,4 +1,5 @@
 ghost use Rattle.omega_answers_formula.specs.Canonical.{IsFormulaTextAnswer};
+ghost use Rattle.omega_answers_formula.specs.Deterministic.{IsDeterministicAnswer, IsDeterministicRefusal};
 ghost use Rattle.omega_answers_formula.specs.Ltl.{IsLtlAnswer, IsLtlRefusal};
 ghost use Rattle.omega_answers_formula.specs.Satisfies.{IsSatisfiesAnswer, IsSatisfiesRefused};
 ghost use Rattle.omega_ltl_text.specs.Text.{IsFormulaTextRefusal};
@@ -9,7 +10,7 @@ use crate::giving::{give, give_verdict};
 use crate::solving::asks;
 use crate::text::Text;
 use crate::text_outcome::TextOutcome;
-use omega_answers_formula::{canonical_formula, ltl_text, satisfies_texts};
+use omega_answers_formula::{canonical_formula, deterministic_text, ltl_text, satisfies_texts};
 use std::alloc::Global;
 
 /// Gives the canonical text of the formula of linear temporal logic of `formula`, without a line feed.
@@ -43,6 +44,27 @@ pub extern "C" fn omega_ltl(
         (IsOneRefused (IsLtlRefusal formula.now)) result out.old out.new }
 {
     match ltl_text(alloc, formula, asks(negated)) {
+        Ok(output) => give(alloc, output, out),
+        Err(refusal) => TextOutcome::of_one(refusal),
+    }
+}
+
+/// Gives the canonical text of a deterministic automaton, with the acceptance `parity min even`, that accepts exactly
+/// the words that satisfy the formula of `formula`. A search finds it, and it is judged before it is given.
+///
+/// The number of the outcome is 0, or that of the [Refusal::Text] of the text, [AutomatonFault::TooDeep],
+/// [TaskFault::TooManyPropositions], [TaskFault::TooLarge], [TaskFault::Unjudged], which is a fault of the library, or
+/// [Refusal::Memory]. Unless it is 0, `out` stays.
+#[unsafe(no_mangle)]
+pub extern "C" fn omega_ltl_deterministic(
+    alloc: Global,
+    formula: &[u8],
+    out: &mut Text,
+) -> TextOutcome
+    ensures { IsTextOutcome (IsDeterministicAnswer formula.now)
+        (IsOneRefused (IsDeterministicRefusal formula.now)) result out.old out.new }
+{
+    match deterministic_text(alloc, formula) {
         Ok(output) => give(alloc, output, out),
         Err(refusal) => TextOutcome::of_one(refusal),
     }

@@ -15,6 +15,7 @@ mod outcome;
 mod realizing;
 mod running;
 mod solving;
+mod synthesis;
 mod text;
 mod text_outcome;
 mod verifying;

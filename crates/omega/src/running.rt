@@ -7,7 +7,7 @@ ghost use Rattle.omega.specs.Running.{IsRequestOfWords, IsObeyedSomehow, IsProgr
 
 mod files;
 mod memory_output;
-mod words;
+pub(crate) mod words;
 
 use files::OneFile;
 use memory_output::MemoryOutput;

@@ -26,7 +26,7 @@ pub(crate) fn words_in(alloc: Global, text: &[u8]) -> Result<Option<Vec<String>>
 }
 
 /// Returns the index of the first NUL.
-fn first_nul(text: &[u8]) -> Option<usize>
+pub(crate) fn first_nul(text: &[u8]) -> Option<usize>
     ensures { result ≡ position is_nul text.now }
 {
     text.iter().position(|byte| *byte == 0)
