@@ -5,10 +5,11 @@
     checks/believing.py --whole                  prints for each promise its files, in the order of reading
     checks/believing.py check --format pg        prints the definitions of that promise, in the order of reading
 
-A promise of a subcommand is the rows of the tables in OneText.antt, Streams.antt, TwoTexts.antt and Formulas.antt of
-crates/omega_run/specs for what the subcommand asks for. From the words of these rows the definitions are followed, each to the words of its body, as the
-`use` lines of its file lead. A file stands after the files that it cites. A line of a specs file that has none of the
-forms below is an error, with its file and number.
+A promise of a subcommand is the rows of the tables in OneText.antt, Streams.antt, TwoTexts.antt, Formulas.antt,
+Synthesis.antt and FormulaJudge.antt of crates/omega_run/specs for what the subcommand asks for. From the words of these
+rows the definitions are followed, each to the words of its body, as the `use` lines of its file lead. A file stands
+after the files that it cites. A line of a specs file that has none of the forms below is an error, with its file and
+number.
 """
 import functools
 import glob
@@ -23,11 +24,13 @@ from program import ROOT, Cases
 
 PAGE = os.path.join("docs", "believe.md")
 MOST_LINES = 400
-# What one text is answered, a stream, the other text and that of the input, and formulas and that of the input; and how
-# the last two kinds are refused.
+# What one text is answered, a stream, the other text and that of the input, formulas and that of the input, a formula
+# whose propositions are parted, and what is judged for one; and how the kinds of several texts are refused.
 TABLES = (("omega_run.specs.OneText", "AnswersOneText"), ("omega_run.specs.Streams", "AnswersStream"),
           ("omega_run.specs.TwoTexts", "AnswersTwoTexts"), ("omega_run.specs.TwoTexts", "RefusesTwoTexts"),
-          ("omega_run.specs.Formulas", "AnswersFormulas"), ("omega_run.specs.Formulas", "RefusesFormulas"))
+          ("omega_run.specs.Formulas", "AnswersFormulas"), ("omega_run.specs.Formulas", "RefusesFormulas"),
+          ("omega_run.specs.Synthesis", "AnswersSynthesis"), ("omega_run.specs.FormulaJudge", "AnswersFormulaJudge"),
+          ("omega_run.specs.FormulaJudge", "RefusesFormulaJudge"))
 HEADLINE = ("omega_solve.specs.Headline", "Headline")
 # The row of the headline, and what stands beside it.
 HEADLINE_ROW = "the headline, `Headline` of `omega_solve`"
@@ -123,7 +126,12 @@ COMMANDS = {
     "realize --lift": ("RealizeByLifting false",),
     "realize --controller --lift": ("RealizeByLifting true",),
     "realize --game": ("RealizabilityGame",),
-    "game": ("Game",),
+    "realize -f": ("AnswersSynthesis: Decide",),
+    "realize -f --controller": ("AnswersSynthesis: Controller",),
+    "realize -f --game": ("AnswersSynthesis: Game",),
+    "verify -f": ("AnswersFormulaJudge: Controller", "RefusesFormulaJudge: Controller"),
+    "verify -f --counter-strategy": ("AnswersFormulaJudge: CounterStrategy", "RefusesFormulaJudge: CounterStrategy"),
+    "game": ("AnswersOneText: Game",),
     "draw --format hoa": ("DrawAutomaton", "DrawLasso"),
 }
 
@@ -131,7 +139,8 @@ COMMANDS = {
 EXPORTS = {"omega_solve": "solving", "omega_verify": "verifying", "omega_bound": "bounding", "omega_empty": "emptiness",
            "omega_meet": "meeting", "omega_complement": "complementing", "omega_contained": "containing",
            "omega_equal": "containing", "omega_realize": "realizing", "omega_formula": "formulas",
-           "omega_ltl": "formulas", "omega_satisfies": "formulas", "omega_run": "running"}
+           "omega_ltl": "formulas", "omega_ltl_deterministic": "formulas", "omega_satisfies": "formulas",
+           "omega_realize_formula": "synthesis", "omega_run": "running"}
 
 # The forms of the lines that begin at the left edge, beside comments: what is used, by names or by a short name of its
 # module; what a library hands on, and its parts; a declaration; a case of a definition, which begins with its name; and
@@ -166,13 +175,14 @@ A proof shows that the code does what the definitions say. It does not show that
 that is for a reader to judge. This page says for each promise with which definitions to begin, and counts what has to
 be read. It is made from the sources by `checks/believing.py`, and `checks/run pages` fails where it is no longer true.
 
-The promise of a subcommand is its rows of the tables in `OneText.antt`, `Streams.antt`, `TwoTexts.antt` and
-`Formulas.antt` of `crates/omega_run/specs`, one for each kind: what reads one text, a stream, another text and that of
-the input, or formulas and that of the input. A row says what is written, or which refusal comes; of the last two kinds
-there is a row for each of the two. The definitions that these rows cite are those to begin
-with. They, and those that they cite in turn, are all that the promise rests on. A line is a line of a definition or of
-its comment; `use` lines are not counted. The promises share most of their definitions: whoever has read one of them has
-read the greater part of the next.
+The promise of a subcommand is its rows of the tables in `OneText.antt`, `Streams.antt`, `TwoTexts.antt`,
+`Formulas.antt`, `Synthesis.antt` and `FormulaJudge.antt` of `crates/omega_run/specs`, one for each kind: what reads one
+text, a stream, another text and that of the input, formulas and that of the input, a formula whose names are parted, or
+such a formula and the text of the input. A row says what is written, or which refusal comes; where a command reads two
+texts there is a row for each of the two. The definitions that these rows cite are those to begin with. They, and those
+that they cite in turn, are all that the promise rests on. A line is a line of a definition or of its comment; `use`
+lines are not counted. The promises share most of their definitions: whoever has read one of them has read the greater
+part of the next.
 
 """
 

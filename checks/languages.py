@@ -181,6 +181,10 @@ def formula_fault(omega: Any, text: bytes) -> Fault:
     questions: list[tuple[str, list[bytes], list[Any], list[str], bytes]] = [
         ("ltl", [text], [0], ["ltl"], text),
         ("ltl", [text], [1], ["ltl", "--negated"], text),
+        ("ltl_deterministic", [text], [], ["ltl", "--deterministic"], text),
+        ("realize_formula", [text, b"a\0"], [0, verdict], ["realize", "--controller", "-f", text.decode(), "--outs", "a"], b""),
+        ("realize_formula", [text, b"b\0a\0rest"], [1, verdict],
+         ["realize", "--controller", "-f", text.decode(), "--ins", "b, a"], b""),
         ("satisfies", [OFTEN.encode(), text], [1, verdict], ["satisfies", "--explain", "-f", text.decode()],
          OFTEN.encode()),
     ]
@@ -215,8 +219,40 @@ def formula_checks(omega: Any) -> Cases:
     yield "and it is in another of it", differs(made.contained_in(often), True)
     negated = omega.Formula("F G a").automaton(negated=True)
     yield "that of the negation does not", differs(negated.satisfies("F G a"), False)
+    yield "a deterministic automaton of a formula", differs(omega.Formula("G F a").deterministic().equivalent(often), True)
+    yield from synthesis_checks(omega)
     for text in (b"a U b", b"G(a -> F b)", b"!(a W b) xor X a", b"(a", b"", b"a M (b R c)", b'F"x\\"y"'):
         yield f"the formula {text!r}", partial(formula_fault, omega, text)
+
+
+def synthesis_checks(omega: Any) -> Cases:
+    """Controllers and counter-strategies of formulas, worked out by hand: both clients of an arbiter are served at last,
+    and cannot both be served at once."""
+    arbiter = omega.Formula("G !(a & b) & G(r -> F a) & G(s -> F b)")
+    found = arbiter.realize(outs=["a", "b"])
+    yield "an arbiter serves two clients", differs(found.realizable, True)
+    yield "its controller is one", differs(arbiter.realized_by(found.automaton, outs=["a", "b"]), True)
+    yield "all but the inputs are outputs", differs(arbiter.realize(ins=["r", "s"]), found)
+    yield "the names come in any order", differs(arbiter.realize(outs=["b", "a"]), found)
+    yield "the clients can't serve themselves", differs(arbiter.realize(outs=["r", "s"]).realizable, False)
+    hasty = omega.Formula("G !(a & b) & G(r -> a) & G(s -> b)")
+    lost = hasty.realize(outs=["a", "b"])
+    yield "an arbiter serves not both at once", differs(lost.realizable, False)
+    yield "the reason is a counter-strategy", differs(hasty.refuted_by(lost.automaton, outs=["a", "b"]), True)
+    yield "which is no controller", differs(hasty.realized_by(lost.automaton, outs=["a", "b"]), False)
+    yield "a name that the formula lacks", refusal_fault(omega, lambda: arbiter.realize(outs=["c"]), (58, 1, None))
+    for names in (["a,b"], [" a"], [""]):
+        try:
+            arbiter.realized_by(found.automaton, outs=names)
+            yield f"the list {names}", "it is taken"
+        except ValueError:
+            yield f"the list {names}", None
+    for lists in ({}, {"outs": ["a", "b"], "ins": ["r", "s"]}):
+        try:
+            arbiter.realize(**lists)
+            yield f"{len(lists)} lists", "they are taken"
+        except TypeError:
+            yield f"{len(lists)} lists", None
 
 
 def language_checks(omega: Any) -> Cases:

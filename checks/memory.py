@@ -163,6 +163,14 @@ RUNS: list[Run] = [
     (["empty", "--search"], b"", BUCHI),
     (["check", "--format", "pg", "no such file"], b"", None),
     *((["verify", *more, "--game", "no such file"], b"", None) for more in (NONE, ["-v"])),
+    *((["verify", "-f", "G(r -> g)", "--outs", "g", "--explain"], text, None)
+      for text in (ARBITRATES, SERVES, b"HOA: v1")),
+    *((["verify", "-f", "G(r -> !g) & G F g", "--outs", "g", "--counter-strategy", "--explain"], text, None)
+      for text in (ASKS.replace(b"AP:\n", b"AP: 1\n"), ARBITRATES)),
+    *((["realize", "-f", "G(r -> g)", "--outs", "g", *more], b"", None)
+      for more in (NONE, ["--controller"], ["--game"])),
+    *((["realize", "-f", formula, "--outs", "g", "--controller"], b"", None)
+      for formula in ("G(r -> !g) & G F g", "g U", "r")),
     (["--help"], b"", None),
     (["solve", "--help"], b"", None),
     (["solve", "--player", "2"], b"", None),

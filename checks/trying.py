@@ -146,7 +146,7 @@ def stop_checks(room: Room) -> Iterator[Check]:
     start.send_signal(signal.SIGTERM)
     start.communicate(timeout=SECONDS)
     yield "interrupted", None if start.returncode == 130 and os.path.exists(stopped) else f"{start.returncode}"
-    for words in (["solve", "game.pg"], ["ltl", "-f", "a"], ["ltl", "--formula=a"]):
+    for words in (["solve", "game.pg"], ["ltl", "-f", "a"], ["ltl", "--formula=a"], ["realize", "-f", "a", "--outs=a"]):
         with subprocess.Popen([TRY, *words], env=room.environment(path), cwd=room.files, stdin=subprocess.PIPE,
                               stdout=subprocess.PIPE, stderr=subprocess.PIPE) as silent:
             yield f"a silent standard input of {' '.join(words)}", None if silent.wait(SECONDS) == 0 else (
