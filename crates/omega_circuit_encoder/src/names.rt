@@ -26,7 +26,8 @@ fn is_symbol_name(name: &[u8]) -> bool
 }
 
 /// Returns the names of the propositions with the numbers `controlled`, which are the system's, or, without `system`,
-/// the names of the others, in the order of `names`. Takes the product of the counts of names and numbers.
+/// the names of the others, in the order of `names`. These are at most `MOST_PROPOSITIONS`, as an automaton has them.
+/// Takes the product of the counts of names and numbers.
 pub fn side_names(
     alloc: Global,
     names: &[ByteString],
