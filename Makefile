@@ -14,7 +14,7 @@ all:
 	@JOBS='$(JOBS)' python3 make/build.py
 
 check:
-	rt ci
+	python3 make/rt.py ci
 	python3 make/library.py --left-by-ci
 	checks/run
 
