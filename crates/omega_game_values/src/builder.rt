@@ -21,7 +21,6 @@ use std::marker::Model;
 ///
 /// After 2^32 successors, or after names of 2^32 bytes, the next is refused with [`Refusal::Memory`] too, since a place
 /// in them takes four bytes.
-#[derive(Drop)]
 pub struct GameBuilder {
     ids: Vec<u32>,
     priorities: Vec<u32>,
@@ -30,6 +29,18 @@ pub struct GameBuilder {
     successors: Lists<u32>,
     // The name of each specification after an opening quote, as in a game.
     quoted: Lists<u8>,
+}
+
+impl Drop for GameBuilder {
+    fn drop(self) {
+        let GameBuilder {
+            ids: _,
+            priorities: _,
+            owners: _,
+            successors: _,
+            quoted: _,
+        } = self;
+    }
 }
 
 impl Model for GameBuilder {

@@ -2,7 +2,7 @@ use crate::player::Player;
 use omega_text::Seq;
 
 /// A node as a game text specifies it.
-#[derive(Debug, Drop)]
+#[derive(Debug)]
 pub struct NodeSpec {
     /// The identifier, at most 2,147,483,647.
     pub id: u32,
@@ -14,4 +14,16 @@ pub struct NodeSpec {
     pub successors: Seq<u32>,
     /// The name without its quotes, or none. An empty name differs from none.
     pub name: Option<Seq<u8>>,
+}
+
+impl Drop for NodeSpec {
+    fn drop(self) {
+        let NodeSpec {
+            id: _,
+            priority: _,
+            owner: _,
+            successors: _,
+            name: _,
+        } = self;
+    }
 }

@@ -7,10 +7,16 @@ use crate::player::Player;
 use omega_text::Seq;
 
 /// A strategy: for each place the place that the player moves to, or none.
-#[derive(Debug, Drop, PartialEq, Eq)]
+#[derive(Debug, PartialEq, Eq)]
 pub struct Strategy {
     /// At each place the place to move to, or none: all listed successors are left possible there.
     pub choice: Seq<Option<u32>>,
+}
+
+impl Drop for Strategy {
+    fn drop(self) {
+        let Strategy { choice: _ } = self;
+    }
 }
 
 impl Strategy {

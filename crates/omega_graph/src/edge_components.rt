@@ -6,11 +6,20 @@ use std::alloc::{AllocError, Global};
 use std::marker::Model;
 
 /// Groups of edges, one after the other in one list.
-#[derive(Debug, Drop)]
+#[derive(Debug)]
 pub struct EdgeComponents {
     // The edges of all components, and the index at which each component starts.
     starts: Vec<usize>,
     edges: Vec<u32>,
+}
+
+impl Drop for EdgeComponents {
+    fn drop(self) {
+        let EdgeComponents {
+            starts: _,
+            edges: _,
+        } = self;
+    }
 }
 
 impl Model for EdgeComponents {

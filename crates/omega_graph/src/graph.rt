@@ -8,10 +8,19 @@ use std::marker::Model;
 
 /// A graph as a list of edges. Its states are numbered below a count, its edges from 0 on in the order in which they
 /// were added.
-#[derive(Debug, Drop)]
+#[derive(Debug)]
 pub struct Graph {
     states: u32,
     edges: Vec<Edge>,
+}
+
+impl Drop for Graph {
+    fn drop(self) {
+        let Graph {
+            states: _,
+            edges: _,
+        } = self;
+    }
 }
 
 impl Model for Graph {

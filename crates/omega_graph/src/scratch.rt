@@ -8,10 +8,16 @@ use std::marker::Model;
 
 /// Scratch space for searches in graphs with a given number of states, made once for many calls. Contracts see that
 /// number and nothing else.
-#[derive(Debug, Drop)]
+#[derive(Debug)]
 pub struct Scratch {
     // By state, a number that means something only while a search runs.
     numbers: Vec<u32>,
+}
+
+impl Drop for Scratch {
+    fn drop(self) {
+        let Scratch { numbers: _ } = self;
+    }
 }
 
 impl Model for Scratch {

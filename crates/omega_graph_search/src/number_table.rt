@@ -4,9 +4,14 @@ use std::alloc::{AllocError, Global};
 pub const NONE: u32 = u32::MAX;
 
 /// Numbers by index. An index past the end reads as [`NONE`], and a write there does nothing.
-#[derive(Drop)]
 pub struct NumberTable {
     items: Vec<u32>,
+}
+
+impl Drop for NumberTable {
+    fn drop(self) {
+        let NumberTable { items: _ } = self;
+    }
 }
 
 impl NumberTable {

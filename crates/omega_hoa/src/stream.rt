@@ -18,13 +18,24 @@ use std::marker::Model;
 ///
 /// It keeps the bytes after the last whole segment, the place at which they begin, how they are cut so far, and a
 /// refusal once there is one.
-#[derive(Drop)]
 pub struct Stream {
     bytes: Vec<u8>,
     begins: usize,
     inside: bool,
     tokenizer: HoaTokenizer,
     refused: Option<Refusal>,
+}
+
+impl Drop for Stream {
+    fn drop(self) {
+        let Stream {
+            bytes: _,
+            begins: _,
+            inside: _,
+            tokenizer: _,
+            refused: _,
+        } = self;
+    }
 }
 
 impl Model for Stream {

@@ -25,10 +25,16 @@ pub enum AccNode {
 /// An acceptance formula without parentheses, at most 256 deep, in one allocation.
 ///
 /// Contracts see its tree. Reading, comparing and dropping it need no recursion.
-#[derive(Debug, PartialEq, Eq, Drop)]
+#[derive(Debug, PartialEq, Eq)]
 pub struct Acc {
     pub(crate) nodes: Seq<AccNode>,
     depth: u32,
+}
+
+impl Drop for Acc {
+    fn drop(self) {
+        let Acc { nodes: _, depth: _ } = self;
+    }
 }
 
 impl Model for Acc {
@@ -94,7 +100,12 @@ impl Acc {
         ensures err { IfErr result (IsDeeper (max (acc_depth self) (acc_depth other) ≡ most_depth)) }
     {
         let depth = deeper(self.depth.max(other.depth))?;
-        let nodes = with_all(self.nodes, other.nodes)?;
+        let Acc { nodes, depth: _ } = self;
+        let Acc {
+            nodes: others,
+            depth: _,
+        } = other;
+        let nodes = with_all(nodes, others)?;
         Ok(Acc {
             nodes: with_one(nodes, AccNode::And)?,
             depth,
@@ -107,7 +118,12 @@ impl Acc {
         ensures err { IfErr result (IsDeeper (max (acc_depth self) (acc_depth other) ≡ most_depth)) }
     {
         let depth = deeper(self.depth.max(other.depth))?;
-        let nodes = with_all(self.nodes, other.nodes)?;
+        let Acc { nodes, depth: _ } = self;
+        let Acc {
+            nodes: others,
+            depth: _,
+        } = other;
+        let nodes = with_all(nodes, others)?;
         Ok(Acc {
             nodes: with_one(nodes, AccNode::Or)?,
             depth,

@@ -30,11 +30,21 @@ pub(crate) enum RawAccNode {
 /// other than `Fin` and `Inf`.
 ///
 /// Contracts see its tree. Reading, measuring, comparing and dropping it need no recursion.
-#[derive(Debug, PartialEq, Eq, Drop)]
+#[derive(Debug, PartialEq, Eq)]
 pub struct RawAcc {
     nodes: Seq<RawAccNode>,
     names: Seq<u8>,
     depth: u32,
+}
+
+impl Drop for RawAcc {
+    fn drop(self) {
+        let RawAcc {
+            nodes: _,
+            names: _,
+            depth: _,
+        } = self;
+    }
 }
 
 impl Model for RawAcc {
@@ -100,9 +110,14 @@ impl RawAcc {
         ensures err { IfErr result (IsDeeper (most_depth ≤ raw_acc_depth self)) }
     {
         let depth = deeper(self.depth)?;
+        let RawAcc {
+            nodes,
+            names,
+            depth: _,
+        } = self;
         Ok(RawAcc {
-            nodes: with_one(self.nodes, RawAccNode::Group)?,
-            names: self.names,
+            nodes: with_one(nodes, RawAccNode::Group)?,
+            names,
             depth,
         })
     }
@@ -136,8 +151,13 @@ impl RawAcc {
             (IsDeeper (most_depth ≤ max (raw_acc_depth self) (raw_acc_depth other))) }
     {
         let depth = deeper(self.depth.max(other.depth))?;
-        let mut nodes = self.nodes.into_vec();
-        let mut names = self.names.into_vec();
+        let RawAcc {
+            nodes,
+            names,
+            depth: _,
+        } = self;
+        let mut nodes = nodes.into_vec();
+        let mut names = names.into_vec();
         append(
             &mut nodes,
             &mut names,

@@ -2,7 +2,7 @@ use omega_hoa_label::Label;
 use omega_text::Numbers;
 
 /// An edge of an automaton (HOA v1, *Body*).
-#[derive(Debug, Drop)]
+#[derive(Debug)]
 pub struct Edge {
     /// The label with its aliases replaced, or none.
     pub label: Option<Label>,
@@ -10,4 +10,14 @@ pub struct Edge {
     pub targets: Numbers,
     /// The sets that it is in, rising, each once.
     pub marks: Numbers,
+}
+
+impl Drop for Edge {
+    fn drop(self) {
+        let Edge {
+            label: _,
+            targets: _,
+            marks: _,
+        } = self;
+    }
 }

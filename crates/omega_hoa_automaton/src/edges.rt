@@ -11,9 +11,15 @@ use std::marker::Model;
 ///
 /// An edge is short if it has no label, leads to one state and is in one set at most. Edges take 12 bytes each if all
 /// edges of the state are short, else 64.
-#[derive(Debug, Drop)]
+#[derive(Debug)]
 pub struct Edges {
     held: Held,
+}
+
+impl Drop for Edges {
+    fn drop(self) {
+        let Edges { held: _ } = self;
+    }
 }
 
 /// How the edges are kept in memory.

@@ -4,7 +4,7 @@ use omega_hoa_syntax::StateName;
 use omega_text::Numbers;
 
 /// A state that an automaton defines, with its edges (HOA v1, *Body*).
-#[derive(Debug, Drop)]
+#[derive(Debug)]
 pub struct State {
     /// The label of each of its edges with its aliases replaced, or none.
     pub label: Option<Label>,
@@ -16,4 +16,16 @@ pub struct State {
     pub marks: Numbers,
     /// The edges in the order written.
     pub edges: Edges,
+}
+
+impl Drop for State {
+    fn drop(self) {
+        let State {
+            label: _,
+            number: _,
+            name: _,
+            marks: _,
+            edges: _,
+        } = self;
+    }
 }

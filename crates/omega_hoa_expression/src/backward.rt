@@ -15,7 +15,6 @@ use std::alloc::Global;
 /// needs parentheses is known at its operator, before any of its bytes is written, so no byte moves.
 ///
 /// Up to 128 bytes and 64 signs take no memory.
-#[derive(Drop)]
 pub struct Backward {
     /// The bytes so far: the end of the text.
     bytes: Leftward,
@@ -23,6 +22,16 @@ pub struct Backward {
     /// How tightly the next part has to bind to need no parentheses: 1 for `|`, 2 for `&`, 3 for the rest. None if the
     /// text is whole.
     wanted: Option<u32>,
+}
+
+impl Drop for Backward {
+    fn drop(self) {
+        let Backward {
+            bytes: _,
+            waiting: _,
+            wanted: _,
+        } = self;
+    }
 }
 
 impl Backward {

@@ -8,9 +8,14 @@ use std::alloc::Global;
 use std::marker::Model;
 
 /// A stack of depths. Up to 16 take no memory.
-#[derive(Drop)]
 pub struct Depths {
     items: SmallVec<u32, 16>,
+}
+
+impl Drop for Depths {
+    fn drop(self) {
+        let Depths { items: _ } = self;
+    }
 }
 
 impl Model for Depths {

@@ -18,10 +18,18 @@ pub enum Pending {
 
 /// A stack of pending prefixes, parentheses and operators: a byte for each, and the depths of operators beside them. Up
 /// to 24 of them, and 16 operators, take no memory.
-#[derive(Drop)]
 pub struct PendingStack {
     signs: Signs,
     depths: Depths,
+}
+
+impl Drop for PendingStack {
+    fn drop(self) {
+        let PendingStack {
+            signs: _,
+            depths: _,
+        } = self;
+    }
 }
 
 impl Model for PendingStack {

@@ -30,9 +30,15 @@ pub enum LabelNode {
 ///
 /// Contracts see its tree. Reading, comparing and dropping it need no recursion. It takes 24 bytes, and memory only if
 /// it has a proposition from 250 on or over 21 atoms and operators.
-#[derive(Debug, Drop)]
+#[derive(Debug)]
 pub struct Label {
     written: Compact,
+}
+
+impl Drop for Label {
+    fn drop(self) {
+        let Label { written: _ } = self;
+    }
 }
 
 const _: () = prove!(std::mem::size_of::<Label>() <= 24);

@@ -12,9 +12,14 @@ use std::marker::Model;
 /// The nodes of a label that is put together, parts before their operators. Contracts see the list of nodes.
 ///
 /// Up to 24 nodes take no memory.
-#[derive(Drop)]
 pub struct LabelNodes {
     items: SmallVec<LabelNode, 24>,
+}
+
+impl Drop for LabelNodes {
+    fn drop(self) {
+        let LabelNodes { items: _ } = self;
+    }
 }
 
 impl Model for LabelNodes {

@@ -24,9 +24,15 @@ use std::marker::Model;
 ///
 /// Contracts see its tree. Reading, measuring, comparing and dropping it need no recursion. It takes 24 bytes, and
 /// memory only if it has an alias, a proposition from 250 on or over 21 atoms, operators and parentheses.
-#[derive(Debug, Drop)]
+#[derive(Debug)]
 pub struct RawLabel {
     written: Compact,
+}
+
+impl Drop for RawLabel {
+    fn drop(self) {
+        let RawLabel { written: _ } = self;
+    }
 }
 
 const _: () = prove!(std::mem::size_of::<RawLabel>() <= 24);
@@ -85,7 +91,8 @@ impl RawLabel {
         ensures err { IfErr result (IsDeeper (most_depth ≤ raw_depth self)) }
     {
         let depth = deeper(self.depth())?;
-        let written = self.written.with_one(LabelNode::Not, depth)?;
+        let RawLabel { written } = self;
+        let written = written.with_one(LabelNode::Not, depth)?;
         Ok(RawLabel { written })
     }
 
@@ -96,7 +103,8 @@ impl RawLabel {
         ensures err { IfErr result (IsDeeper (most_depth ≤ raw_depth self)) }
     {
         let depth = deeper(self.depth())?;
-        let written = self.written.with_one(LabelNode::Group, depth)?;
+        let RawLabel { written } = self;
+        let written = written.with_one(LabelNode::Group, depth)?;
         Ok(RawLabel { written })
     }
 
@@ -126,7 +134,9 @@ impl RawLabel {
         ensures err { IfErr result (IsDeeper (most_depth ≤ max (raw_depth self) (raw_depth other))) }
     {
         let depth = deeper(self.depth().max(other.depth()))?;
-        let written = self.written.combination(other.written, operator, depth)?;
+        let RawLabel { written } = self;
+        let RawLabel { written: others } = other;
+        let written = written.combination(others, operator, depth)?;
         Ok(RawLabel { written })
     }
 
@@ -186,7 +196,8 @@ impl RawLabel {
         requires shallow { raw_depth self ≤ most_depth }
         ensures { result ≡ bare self }
     {
-        Label::of_written(self.written.without_parentheses())
+        let RawLabel { written } = self;
+        Label::of_written(written.without_parentheses())
     }
 
     /// Makes the label of `nodes` in postfix order, with its alias names and its depth as [`depth`](RawLabel::depth)

@@ -40,11 +40,20 @@ pub(crate) struct Definition {
 /// Aliases with their definitions, in the order of their items, kept unexpanded.
 ///
 /// An alias inside a definition means an earlier definition only.
-#[derive(Drop)]
 pub struct Aliases {
     names: IndexSet<Vec<u8>>,
     definitions: Vec<Definition>,
     room: usize,
+}
+
+impl Drop for Aliases {
+    fn drop(self) {
+        let Aliases {
+            names: _,
+            definitions: _,
+            room: _,
+        } = self;
+    }
 }
 
 impl Model for Aliases {

@@ -15,9 +15,15 @@ const MOST_MOVED: usize = 64;
 /// The edges of a state in the order written. Contracts see the list of edges.
 ///
 /// If all of them are short they take 12 bytes each, else 64.
-#[derive(Debug, Drop)]
+#[derive(Debug)]
 pub struct RawEdges {
     held: Held,
+}
+
+impl Drop for RawEdges {
+    fn drop(self) {
+        let RawEdges { held: _ } = self;
+    }
 }
 
 /// How the edges are kept in memory.
@@ -96,7 +102,8 @@ impl RawEdges {
     pub fn fitted_edges(self, alloc: Global) -> Result<RawEdges, AllocError>
         ensures { IfOk result (λ same. same ≡ self) }
     {
-        let held = match self.held {
+        let RawEdges { held } = self;
+        let held = match held {
             Held::Short(edges) => Held::Short(fitted_values(alloc, edges)?),
             Held::Full(edges) => Held::Full(fitted_values(alloc, edges)?),
         };
@@ -138,7 +145,8 @@ impl RawEdges {
     pub fn into_held(self) -> HeldEdges
         ensures { edges_in result ≡ self }
     {
-        match self.held {
+        let RawEdges { held } = self;
+        match held {
             Held::Short(edges) => HeldEdges::Short(Seq::from_vec(edges)),
             Held::Full(edges) => HeldEdges::Full(Seq::from_vec(edges)),
         }

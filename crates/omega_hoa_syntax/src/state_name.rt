@@ -9,9 +9,15 @@ use std::marker::Model;
 ///
 /// Few states have a name. It takes 16 bytes, while an `Option<ByteString>` takes 24, and takes memory only if there is
 /// a name.
-#[derive(Debug, Drop)]
+#[derive(Debug)]
 pub struct StateName {
     bytes: Option<Box<ByteString>>,
+}
+
+impl Drop for StateName {
+    fn drop(self) {
+        let StateName { bytes: _ } = self;
+    }
 }
 
 const _: () = prove!(std::mem::size_of::<StateName>() <= 16);

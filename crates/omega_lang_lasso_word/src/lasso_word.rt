@@ -10,7 +10,7 @@ use std::alloc::Global;
 
 /// Words along a lasso, whose letters are conjunctions of labels. After the letters of the stem come those of the
 /// cycle, again and again.
-#[derive(Debug, Drop, PartialEq, Eq)]
+#[derive(Debug, PartialEq, Eq)]
 pub struct LassoWord {
     /// The names of the propositions, by number.
     pub names: Seq<ByteString>,
@@ -18,6 +18,16 @@ pub struct LassoWord {
     pub stem: Seq<Seq<Label>>,
     /// The letters of the cycle, likewise, at least one.
     pub cycle: Seq<Seq<Label>>,
+}
+
+impl Drop for LassoWord {
+    fn drop(self) {
+        let LassoWord {
+            names: _,
+            stem: _,
+            cycle: _,
+        } = self;
+    }
 }
 
 impl LassoWord {

@@ -7,7 +7,7 @@ use omega_text::{Numbers, Refusal};
 use std::alloc::Global;
 
 /// Edges of a product, by their numbers. Each takes an edge of the first automaton and one of the second together.
-#[derive(Debug, Drop)]
+#[derive(Debug)]
 pub struct JointEdges {
     /// The numbers of the pairs that each leads between.
     pub ends: Vec<Edge>,
@@ -18,6 +18,17 @@ pub struct JointEdges {
     pub firsts: Vec<u32>,
     /// The number of the edge of the second automaton that each takes.
     pub seconds: Vec<u32>,
+}
+
+impl Drop for JointEdges {
+    fn drop(self) {
+        let JointEdges {
+            ends: _,
+            marks: _,
+            firsts: _,
+            seconds: _,
+        } = self;
+    }
 }
 
 impl JointEdges {

@@ -3,7 +3,7 @@ use omega_text::Numbers;
 
 /// An edge of an automaton as its product with another sees it. It has one label over the joined propositions, one
 /// target, and all marks that count on it.
-#[derive(Debug, Drop)]
+#[derive(Debug)]
 pub struct PlainEdge {
     /// The label, never left out.
     pub label: Label,
@@ -11,4 +11,14 @@ pub struct PlainEdge {
     pub target: u32,
     /// The marks of the edge and of the state that it leaves, numbered after the sets of the automaton before.
     pub marks: Numbers,
+}
+
+impl Drop for PlainEdge {
+    fn drop(self) {
+        let PlainEdge {
+            label: _,
+            target: _,
+            marks: _,
+        } = self;
+    }
 }

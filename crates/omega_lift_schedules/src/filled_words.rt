@@ -7,9 +7,14 @@ const POSITIONS: usize = 64;
 
 /// A bit for each word of a set of positions: whether it is filled. Only safety is proved. A position that is found by
 /// it is looked up in the set.
-#[derive(Drop)]
 pub struct FilledWords {
     bits: Vec<u64>,
+}
+
+impl Drop for FilledWords {
+    fn drop(self) {
+        let FilledWords { bits: _ } = self;
+    }
 }
 
 impl FilledWords {

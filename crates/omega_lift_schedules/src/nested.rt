@@ -16,7 +16,6 @@ use std::marker::Model;
 ///
 /// `prepare` knows no game, and has the places in rising order. For n nodes and m edges, `prepare_for` takes about 3 (n
 /// + m) steps, looking may pass over n / 4096 words, and the rest is done in a few steps.
-#[derive(Drop)]
 pub struct Nested {
     permutation: Permutation,
     /// The positions of the pending places.
@@ -25,6 +24,18 @@ pub struct Nested {
     filled: FilledWords,
     taken: u64,
     pace: Pace,
+}
+
+impl Drop for Nested {
+    fn drop(self) {
+        let Nested {
+            permutation: _,
+            pending: _,
+            filled: _,
+            taken: _,
+            pace: _,
+        } = self;
+    }
 }
 
 impl Model for Nested {

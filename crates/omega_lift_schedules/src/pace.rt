@@ -7,7 +7,6 @@
 /// So a short cycle counts to top in focus while the other positions are pending, and a region that must rise together
 /// does so in sweeps. Each goes on in proportion to what the other took. Both grow, so that a long focus is not
 /// disturbed. Only safety is proved: numbers that would wrap stay as they are.
-#[derive(Drop)]
 pub struct Pace {
     /// The place at which to look for the next position.
     pub cursor: usize,
@@ -23,6 +22,20 @@ pub struct Pace {
     in_focus: bool,
     /// How often in a row the position taken last was taken again.
     repeats: u64,
+}
+
+impl Drop for Pace {
+    fn drop(self) {
+        let Pace {
+            cursor: _,
+            low: _,
+            fuel: _,
+            spent: _,
+            quota: _,
+            in_focus: _,
+            repeats: _,
+        } = self;
+    }
 }
 
 /// A focus, and the sweeps after it, may each take this many times what the sweeps before them took.

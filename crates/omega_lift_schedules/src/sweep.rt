@@ -8,7 +8,6 @@ use std::marker::Model;
 /// A schedule that takes the pending places in rising order, round and round. A take goes on to the next pending place,
 /// in at most one round, and looking reads that place. A place that is added ahead comes in this round, and one that
 /// was passed in the next.
-#[derive(Drop)]
 pub struct Sweep {
     pending: Vec<bool>,
     /// The number of pending places.
@@ -18,6 +17,18 @@ pub struct Sweep {
     /// The place to look at: the first pending one from `from` on, round the end, if there is one.
     place: u32,
     taken: u64,
+}
+
+impl Drop for Sweep {
+    fn drop(self) {
+        let Sweep {
+            pending: _,
+            count: _,
+            from: _,
+            place: _,
+            taken: _,
+        } = self;
+    }
 }
 
 impl Model for Sweep {

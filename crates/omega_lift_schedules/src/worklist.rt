@@ -10,7 +10,6 @@ use std::marker::Model;
 /// A schedule that takes the pending places first in, first out. At first all are pending, in rising order. An added
 /// place goes last, and a place that is pending already keeps its position. Taking another place than the one to look
 /// at goes through the queue.
-#[derive(Drop)]
 pub struct Worklist {
     /// A slot for each place; the queue begins at `first` and goes round the end.
     ring: Vec<u32>,
@@ -18,6 +17,18 @@ pub struct Worklist {
     count: usize,
     pending: Vec<bool>,
     taken: u64,
+}
+
+impl Drop for Worklist {
+    fn drop(self) {
+        let Worklist {
+            ring: _,
+            first: _,
+            count: _,
+            pending: _,
+            taken: _,
+        } = self;
+    }
 }
 
 impl Model for Worklist {

@@ -3,7 +3,6 @@ use omega_graph_search::{ComponentSearch, NONE, NumberTable, SearchedGraph, numb
 use std::alloc::{AllocError, Global};
 
 /// The component of each vertex of a graph.
-#[derive(Drop)]
 pub struct Components {
     /// By vertex the number of its component. A component comes after those that it leads to.
     pub of: NumberTable,
@@ -11,6 +10,16 @@ pub struct Components {
     pub count: u32,
     /// The vertices in the order of their components.
     pub order: Vec<u32>,
+}
+
+impl Drop for Components {
+    fn drop(self) {
+        let Components {
+            of: _,
+            count: _,
+            order: _,
+        } = self;
+    }
 }
 
 /// Returns the components of the graph whose vertex v has the targets from the index `ends[v - 1]`, or 0, up to

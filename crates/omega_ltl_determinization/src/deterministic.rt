@@ -18,7 +18,7 @@ pub struct DeterministicEdge {
 
 /// A deterministic transition-based parity automaton, as flat arrays. A word is accepted if the least colour that
 /// recurs on its run is even; at a letter of no edge of the state that it is in, it is refused.
-#[derive(Debug, Drop)]
+#[derive(Debug)]
 pub struct DeterministicAutomaton {
     /// How many names the letters give truth values to.
     pub names: u32,
@@ -30,6 +30,18 @@ pub struct DeterministicAutomaton {
     pub edges: Seq<DeterministicEdge>,
     /// The tables of the letters of each edge, side by side.
     pub letters: Seq<u64>,
+}
+
+impl Drop for DeterministicAutomaton {
+    fn drop(self) {
+        let DeterministicAutomaton {
+            names: _,
+            start: _,
+            ends: _,
+            edges: _,
+            letters: _,
+        } = self;
+    }
 }
 
 impl DeterministicAutomaton {

@@ -13,13 +13,23 @@ use omega_text::{Refusal, Seq, TaskFault};
 use std::alloc::Global;
 
 /// A deterministic automaton that is being made, state by state: first the edges of a state, then its end.
-#[derive(Drop)]
 pub struct DeterministicBuilder {
     ends: Vec<u32>,
     edges: Vec<DeterministicEdge>,
     letters: LetterSets,
     // The targets and colours of the edges of the state that is being made, in the order of the edges.
     joined: IndexSet<u64>,
+}
+
+impl Drop for DeterministicBuilder {
+    fn drop(self) {
+        let DeterministicBuilder {
+            ends: _,
+            edges: _,
+            letters: _,
+            joined: _,
+        } = self;
+    }
 }
 
 impl DeterministicBuilder {

@@ -6,10 +6,16 @@ use std::alloc::{AllocError, Global};
 use std::marker::Model;
 
 /// Sets of letters side by side, each a table of as many words.
-#[derive(Debug, Drop)]
+#[derive(Debug)]
 pub struct LetterSets {
     width: usize,
     words: Vec<u64>,
+}
+
+impl Drop for LetterSets {
+    fn drop(self) {
+        let LetterSets { width: _, words: _ } = self;
+    }
 }
 
 impl Model for LetterSets {

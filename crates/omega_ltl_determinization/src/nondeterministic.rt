@@ -25,7 +25,6 @@ pub(crate) struct NondeterministicEdge {
 ///
 /// It is made state by state: first the edges of a state, then its end. The numbers in it may be any: a start or a
 /// target that is no state has no edges.
-#[derive(Drop)]
 pub struct NondeterministicAutomaton {
     pub(crate) names: u32,
     pub(crate) sets: u32,
@@ -37,6 +36,20 @@ pub struct NondeterministicAutomaton {
     labels: IndexSet<Vec<u64>>,
     ghost few_names: { names ≤ 16 },
     ghost few_sets: { sets ≤ 64 },
+}
+
+impl Drop for NondeterministicAutomaton {
+    fn drop(self) {
+        let NondeterministicAutomaton {
+            names: _,
+            sets: _,
+            all: _,
+            starts: _,
+            ends: _,
+            edges: _,
+            labels: _,
+        } = self;
+    }
 }
 
 impl NondeterministicAutomaton {

@@ -7,9 +7,15 @@ use std::marker::Model;
 
 /// Numbers by index, to which more are appended. An index past the end reads as [`NONE`], and a write there does
 /// nothing.
-#[derive(Debug, Drop)]
+#[derive(Debug)]
 pub struct NumberList {
     items: Vec<u32>,
+}
+
+impl Drop for NumberList {
+    fn drop(self) {
+        let NumberList { items: _ } = self;
+    }
 }
 
 impl Model for NumberList {

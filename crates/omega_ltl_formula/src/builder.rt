@@ -21,10 +21,15 @@ use std::marker::Model;
 ///
 /// Parts come before what they are parts of, and each call returns the number of the node that is the formula asked
 /// for: a new one, or an equal one that is there.
-#[derive(Drop)]
 pub struct FormulaBuilder {
     pub(crate) names: IndexSet<Vec<u8>>,
     pub(crate) nodes: IndexSet<FormulaNode>,
+}
+
+impl Drop for FormulaBuilder {
+    fn drop(self) {
+        let FormulaBuilder { names: _, nodes: _ } = self;
+    }
 }
 
 impl Model for FormulaBuilder {

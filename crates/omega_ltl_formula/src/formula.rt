@@ -10,11 +10,21 @@ use std::marker::Model;
 ///
 /// It is a table of nodes. The operands of a node stand before it, so that one loop over the table sees the parts of
 /// each node first, and nothing recurses. Equal parts may be one node.
-#[derive(Debug, Drop)]
+#[derive(Debug)]
 pub struct Formula {
     pub(crate) names: Seq<ByteString>,
     pub(crate) nodes: Seq<FormulaNode>,
     pub(crate) root: usize,
+}
+
+impl Drop for Formula {
+    fn drop(self) {
+        let Formula {
+            names: _,
+            nodes: _,
+            root: _,
+        } = self;
+    }
 }
 
 impl Model for Formula {

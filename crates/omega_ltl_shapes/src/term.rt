@@ -8,7 +8,7 @@ use omega_text::Numbers;
 use std::alloc::{AllocError, Global};
 
 /// What an edge fixes.
-#[derive(Debug, Drop)]
+#[derive(Debug)]
 pub struct Term {
     /// The literals that hold now.
     pub cube: Cube,
@@ -16,6 +16,16 @@ pub struct Term {
     pub next: Numbers,
     /// The strong demands whose goal is postponed: a bit for each of their sets.
     pub late: u64,
+}
+
+impl Drop for Term {
+    fn drop(self) {
+        let Term {
+            cube: _,
+            next: _,
+            late: _,
+        } = self;
+    }
 }
 
 impl Term {

@@ -12,7 +12,7 @@ use omega_text::{Numbers, Refusal, Seq};
 use std::alloc::Global;
 
 /// The demands on the nodes of a formula: `2 * node` that a node holds, and `2 * node + 1` that it does not.
-#[derive(Debug, Drop)]
+#[derive(Debug)]
 pub struct Tables {
     /// What each demand comes to.
     pub shapes: Seq<Shape>,
@@ -20,6 +20,16 @@ pub struct Tables {
     pub strongs: Numbers,
     /// What an edge has to fix for each demand to hold: one of these.
     pub terms: Seq<Seq<Term>>,
+}
+
+impl Drop for Tables {
+    fn drop(self) {
+        let Tables {
+            shapes: _,
+            strongs: _,
+            terms: _,
+        } = self;
+    }
 }
 
 impl Tables {

@@ -15,12 +15,22 @@ use std::marker::Model;
 
 /// A table that packs each measure in words of 64 bits: one bit for top, and then the entries, the one for the greatest
 /// priority first. Each entry has as many bits as its limit needs, and none lies across two words.
-#[derive(Drop)]
 pub struct PackedTable {
     shape: Shape,
     fields: Vec<Field>,
     size: usize,
     words: Vec<u64>,
+}
+
+impl Drop for PackedTable {
+    fn drop(self) {
+        let PackedTable {
+            shape: _,
+            fields: _,
+            size: _,
+            words: _,
+        } = self;
+    }
 }
 
 impl Model for PackedTable {

@@ -11,11 +11,20 @@ use std::cmp::Ordering;
 use std::marker::Model;
 
 /// A table that keeps the measures as rows of numbers, side by side.
-#[derive(Drop)]
 pub struct PlainTable {
     shape: Shape,
     tops: Vec<bool>,
     entries: Vec<u32>,
+}
+
+impl Drop for PlainTable {
+    fn drop(self) {
+        let PlainTable {
+            shape: _,
+            tops: _,
+            entries: _,
+        } = self;
+    }
 }
 
 impl Model for PlainTable {

@@ -20,7 +20,7 @@ pub struct QuestionRange {
 
 /// A game in rounds. In a state player 1 asks one of its questions, and player 0 answers it by an edge, which leads to
 /// the next state.
-#[derive(Debug, Drop)]
+#[derive(Debug)]
 pub struct Rounds {
     /// The questions of each state, by its number.
     pub states: Seq<QuestionRange>,
@@ -28,4 +28,14 @@ pub struct Rounds {
     pub edges: Seq<RoundEdge>,
     /// For each question the numbers of the edges that answer it.
     pub questions: Seq<Numbers>,
+}
+
+impl Drop for Rounds {
+    fn drop(self) {
+        let Rounds {
+            states: _,
+            edges: _,
+            questions: _,
+        } = self;
+    }
 }

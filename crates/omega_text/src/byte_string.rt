@@ -11,9 +11,15 @@ const MOST_IN_PLACE: usize = 14;
 ///
 /// Names and words of headers are nearly always so short: they take 16 bytes, while a vector takes 24 and an
 /// allocation.
-#[derive(Debug, Drop)]
+#[derive(Debug)]
 pub struct ByteString {
     held: Held,
+}
+
+impl Drop for ByteString {
+    fn drop(self) {
+        let ByteString { held: _ } = self;
+    }
 }
 
 /// The bytes, in place or in an allocation.

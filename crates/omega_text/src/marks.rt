@@ -6,9 +6,15 @@ use std::marker::Model;
 /// The sets of a state or an edge as they are written, or none without braces. Contracts see an optional list.
 ///
 /// It takes 16 bytes, as `Numbers` does, while an `Option<Numbers>` takes 24.
-#[derive(Debug, Drop)]
+#[derive(Debug)]
 pub struct Marks {
     written: Written,
+}
+
+impl Drop for Marks {
+    fn drop(self) {
+        let Marks { written: _ } = self;
+    }
 }
 
 /// The sets, if there are braces.
@@ -49,7 +55,7 @@ impl Marks {
     pub fn of(sets: Numbers) -> Self
         ensures { result ≡ Some sets }
     {
-        let written = match sets.held {
+        let written = match sets.into_held() {
             Held::Short { count, values } => Written::Short { count, values },
             Held::Long(numbers) => Written::Long(numbers),
         };
@@ -60,7 +66,8 @@ impl Marks {
     pub fn into_numbers(self) -> Option<Numbers>
         ensures { result ≡ self }
     {
-        match self.written {
+        let Marks { written } = self;
+        match written {
             Written::Absent => None,
             Written::Short { count, values } => Some(Numbers {
                 held: Held::Short { count, values },

@@ -11,9 +11,15 @@ const MOST_IN_PLACE: u8 = 3;
 ///
 /// Lists of marks and of targets are nearly always so short: they take 16 bytes, while a vector takes 24 and an
 /// allocation.
-#[derive(Debug, Drop)]
+#[derive(Debug)]
 pub struct Numbers {
     pub(crate) held: Held,
+}
+
+impl Drop for Numbers {
+    fn drop(self) {
+        let Numbers { held: _ } = self;
+    }
 }
 
 /// The numbers, in place or in an allocation.
@@ -37,6 +43,15 @@ impl Model for Numbers {
 }
 
 impl Numbers {
+    /// Returns the numbers as they are kept.
+    pub(crate) fn into_held(self) -> Held
+        ensures numbers { numbers_in result ≡ self }
+        ensures fits { fits_in_place result }
+    {
+        let Numbers { held } = self;
+        held
+    }
+
     /// Returns the empty list.
     pub fn new() -> Self
         ensures { result ≡ [] }
