@@ -41,7 +41,8 @@ pub fn check_one_start(automaton: &Automaton) -> Result<(), Refusal>
 /// - [TaskFault::TooLarge] if the label of an edge, or two together, are deeper than `MOST_DEPTH` or have over
 ///   `MOST_SIZE` atoms and operators.
 ///
-/// Judges each two edges of a state together. A state with an edge for each valuation needs no judging.
+/// Judges each two edges of a state together, but for many conjunctions of literals over the first twelve propositions,
+/// which are added up ([`check_exclusive_labels`]). A state with an edge for each valuation needs no judging.
 pub fn check_deterministic_states(alloc: Global, automaton: &Automaton) -> Result<(), Refusal>
     ensures apart { OnOk result (AreExclusiveBelow automaton.now automaton.now.states) }
     ensures refused { IfErr result (AreUnjudged automaton.now) }

@@ -14,7 +14,7 @@ use std::alloc::Global;
 
 /// The most atoms and operators of a small label. Two small labels together are never too deep, as no label is deeper
 /// than it has atoms and operators.
-const MOST_SMALL: usize = 127;
+pub(crate) const MOST_SMALL: usize = 127;
 
 /// Whether two labels can be true together. Fails as `is_satisfiable` does for their conjunction, and with
 /// [TaskFault::TooLarge] if that is deeper than `MOST_DEPTH` or has over `MOST_SIZE` atoms and operators.

@@ -18,7 +18,7 @@ use std::alloc::Global;
 
 /// What is known of a label: its literals, if it is a conjunction of them, or else a truth table, if it mentions few
 /// propositions.
-#[derive(Debug, Drop)]
+#[derive(Debug)]
 pub struct LabelSummary {
     size: usize,
     /// Whether its conjunction with a label as shallow is not too deep.
@@ -28,9 +28,21 @@ pub struct LabelSummary {
     wide: Option<WideTable>,
 }
 
+impl Drop for LabelSummary {
+    fn drop(self) {
+        let LabelSummary {
+            size: _,
+            is_shallow: _,
+            literals: _,
+            table: _,
+            wide: _,
+        } = self;
+    }
+}
+
 impl LabelSummary {
-    /// Summarizes `label`. Linear in the label, but for the 64 passes over one that is no conjunction of literals and
-    /// mentions the propositions from six to eleven.
+    /// Summarizes `label`. Linear in the label, but for the wide table of one that is no conjunction of literals and
+    /// mentions propositions from six to eleven, which takes as long as `WideTable::of`.
     pub fn of(alloc: Global, label: &Label) -> Result<LabelSummary, Refusal>
         ensures summary { IfOk result (IsSummaryOf label.now) }
         ensures memory { IsOkUnless result Refusal.Memory }

@@ -9,6 +9,7 @@ use Rattle.omega_hoa_satisfiable.specs.Literals.{AreLiteralsOf, FailAt, HoldAt}
 use Rattle.omega_hoa_satisfiable.specs.Tables.{MentionsLow, valuation}
 use Rattle.omega_hoa_satisfiable.specs.declared.literals.Literals.{Literals}
 use Rattle.omega_hoa_satisfiable.specs.private.LiteralLanes.{AgreeAt, AreAgreeing, hold_in, lanes_if, lanes_in}
+use Rattle.omega_hoa_satisfiable.specs.private.ReadCubes.{AreMetAt}
 use Rattle.omega_hoa_satisfiable.specs.private.Words.{mask, ones}
 use Rattle.omega_hoa_satisfiable.proofs.TruthTables.{both-true, true-both}
 use Rattle.omega_hoa_satisfiable.proofs.Valuations.{mask-bit}
@@ -134,12 +135,12 @@ no-bits word within none = elim (cases_Bool (word == 0)) [
 small-of : (word mask : ℕ) → word < 2 ^ 64 → bit_and word mask < 2 ^ 64
 small-of word mask within = omega (arith, and_le_l word mask, within)
 
-same-bool : (a b : Bool) → (a ≡ true → b ≡ true) → (b ≡ true → a ≡ true) → a ≡ b
+pub same-bool : (a b : Bool) → (a ≡ true → b ≡ true) → (b ≡ true → a ≡ true) → a ≡ b
 same-bool true b there back = sym (there refl)
 same-bool false true there back = back refl
 same-bool false false there back = refl
 
-module _ (tree : LabelTree) (literals : Literals) (lanes : ℕ) (are : AreLiteralsOf tree literals) (held-within : literals.held < 2 ^ 64) (unheld-within : literals.unheld < 2 ^ 64) (agree : AreAgreeing literals 6 lanes) (number : ℕ) (bound : number < 4096) where
+module _ (literals : Literals) (lanes : ℕ) (held-within : literals.held < 2 ^ 64) (unheld-within : literals.unheld < 2 ^ 64) (agree : AreAgreeing literals 6 lanes) (number : ℕ) (bound : number < 4096) where
   inside : number % 64 < 64
   inside = omega arith
 
@@ -202,13 +203,14 @@ module _ (tree : LabelTree) (literals : Literals) (lanes : ℕ) (are : AreLitera
         ))
   ]
 
-  lane-true : valuation (lanes_in literals lanes (number / 64)) (number % 64) ≡ true → truth (valuation number) tree ≡ true
-  lane-true is = elim (cases_Bool (hold_in literals (number / 64))) [
+  -- in the lane of a valuation they hold at it
+  pub lane-met : valuation (lanes_in literals lanes (number / 64)) (number % 64) ≡ true → AreMetAt literals (valuation number)
+  lane-met is = elim (cases_Bool (hold_in literals (number / 64))) [
     | inl hold ↦
         let on-lanes = sym (ap (λ w. valuation w (number % 64)) (cond-true (hold_in literals (number / 64)) lanes 0 hold)) ∙ is in
         let low = agree.only (number % 64) inside on-lanes in
         let both = both-true (held-mask == 0) (unheld-mask == 0) hold in
-        (are (valuation number)).1 (held-there (eqb-true held-mask 0 both.0) low, unheld-there (eqb-true unheld-mask 0 both.1) low)
+        (held-there (eqb-true held-mask 0 both.0) low, unheld-there (eqb-true unheld-mask 0 both.1) low)
     | inr none ↦
         absurd (false≢true (sym (lane-off (number % 64)) ∙ (ap (λ w. valuation w (number % 64)) (sym (cond-false (hold_in literals (number / 64)) lanes 0 none)) ∙ is)))
   ]
@@ -243,9 +245,9 @@ module _ (tree : LabelTree) (literals : Literals) (lanes : ℕ) (are : AreLitera
   unheld-small : unheld-mask < 2 ^ 64
   unheld-small = small-of (literals.unheld / 2 ^ 6) (number / 64) (omega (arith, unheld-within))
 
-  true-lane : truth (valuation number) tree ≡ true → valuation (lanes_in literals lanes (number / 64)) (number % 64) ≡ true
-  true-lane holds =
-      let met = (are (valuation number)).0 holds in
+  -- and the other way round
+  pub met-lane : AreMetAt literals (valuation number) → valuation (lanes_in literals lanes (number / 64)) (number % 64) ≡ true
+  met-lane met =
       let both : hold_in literals (number / 64) ≡ true =
       true-both (held-mask == 0) (unheld-mask == 0) (no-bits held-mask held-small (held-none met.0)) (no-bits unheld-mask unheld-small (unheld-none met.1)) in
       ap (λ w. valuation w (number % 64)) (cond-true (hold_in literals (number / 64)) lanes 0 both)
@@ -261,5 +263,6 @@ literal-truths tree literals lanes mentions are held-within unheld-within agree 
   low = mentions;
   agrees = λ number bound.
       same-bool (valuation (lanes_in literals lanes (number / 64)) (number % 64)) (truth (valuation number) tree)
-      (lane-true tree literals lanes are held-within unheld-within agree number bound) (true-lane tree literals lanes are held-within unheld-within agree number bound);
+      (λ is. (are (valuation number)).1 (lane-met literals lanes held-within unheld-within agree number bound is))
+      (λ holds. met-lane literals lanes held-within unheld-within agree number bound ((are (valuation number)).0 holds));
 }

@@ -1,6 +1,8 @@
 -- Lemmas, by what they are about.
 pub mod Branching
 pub mod Cubes
+pub mod CubeWords
+pub mod CubesRead
 pub mod LaneLiterals
 pub mod Leading
 pub mod LiteralBits

@@ -20,35 +20,35 @@ use Rattle.omega_hoa_satisfiable.proofs.WordLemmas.{lane-off, lane-on, on-and, o
 
 -- ---- what holds of all propositions whose bits are set
 
-abbrev AllOf : ℕ → (ℕ → Type 0) → Type 0
+abbrev pub AllOf : ℕ → (ℕ → Type 0) → Type 0
 AllOf word P = (p : ℕ) → valuation word p ≡ true → P p
 
-or-bit : (word other p : ℕ) → valuation (bit_or word other) p ≡ (valuation word p || valuation other p)
+pub or-bit : (word other p : ℕ) → valuation (bit_or word other) p ≡ (valuation word p || valuation other p)
 or-bit word other p =
     ap (λ bit. eqb bit 1) (bit_at_or word other p) ∙ on-or-bits (bit_at word p) (bit_at other p) (bit_at-lt word p) (bit_at-lt other p)
 
-all-both : (P : ℕ → Type 0) (word other : ℕ) → AllOf word P → AllOf other P → AllOf (bit_or word other) P
+pub all-both : (P : ℕ → Type 0) (word other : ℕ) → AllOf word P → AllOf other P → AllOf (bit_or word other) P
 all-both P word other all all' p is = elim (or_cases (valuation word p) (valuation other p) (sym (or-bit word other p) ∙ is)) [
   | inl here ↦ all p here
   | inr there ↦ all' p there
 ]
 
-all-left : (P : ℕ → Type 0) (word other : ℕ) → AllOf (bit_or word other) P → AllOf word P
+pub all-left : (P : ℕ → Type 0) (word other : ℕ) → AllOf (bit_or word other) P → AllOf word P
 all-left P word other all p is = all p (or-bit word other p ∙ or_left (valuation word p) (valuation other p) is)
 
-all-right : (P : ℕ → Type 0) (word other : ℕ) → AllOf (bit_or word other) P → AllOf other P
+pub all-right : (P : ℕ → Type 0) (word other : ℕ) → AllOf (bit_or word other) P → AllOf other P
 all-right P word other all p is = all p (or-bit word other p ∙ or_right (valuation word p) (valuation other p) is)
 
-all-none : (P : ℕ → Type 0) → AllOf 0 P
+pub all-none : (P : ℕ → Type 0) → AllOf 0 P
 all-none P p is = absurd (false≢true (sym (ap (λ bit. eqb bit 1) (bit_at-zero p)) ∙ is))
 
-all-one : (P : ℕ → Type 0) (number : ℕ) → P number → AllOf (2 ^ number) P
+pub all-one : (P : ℕ → Type 0) (number : ℕ) → P number → AllOf (2 ^ number) P
 all-one P number here p is = elim (cases_Bool (eqb p number)) [
   | inl same ↦ subst P (sym (eqb-true p number same)) here
   | inr other ↦ absurd (false≢true (sym (ap (λ bit. eqb bit 1) (bit_at-pow_other number p (λ e. false≢true (sym other ∙ eq-eqb p number e)))) ∙ is))
 ]
 
-one-all : (P : ℕ → Type 0) (number : ℕ) → AllOf (2 ^ number) P → P number
+pub one-all : (P : ℕ → Type 0) (number : ℕ) → AllOf (2 ^ number) P → P number
 one-all P number all = all number (ap (λ bit. eqb bit 1) (bit_at-pow_same number))
 
 -- ---- what was read
@@ -113,11 +113,11 @@ met-last read number letter = (
   },
 )
 
-not-true : (value : Bool) → not value ≡ true → value ≡ false
+pub not-true : (value : Bool) → not value ≡ true → value ≡ false
 not-true true is = absurd (false≢true is)
 not-true false is = refl
 
-true-not : (value : Bool) → value ≡ false → not value ≡ true
+pub true-not : (value : Bool) → value ≡ false → not value ≡ true
 true-not value is = ap not is
 
 -- `!` after a proposition

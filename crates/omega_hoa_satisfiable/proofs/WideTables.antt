@@ -11,6 +11,7 @@ use Rattle.omega_hoa_satisfiable.specs.Satisfiable.{IsSatisfiable}
 use Rattle.omega_hoa_satisfiable.specs.Tables.{IsWideTable, MentionsLow, valuation}
 use Rattle.omega_hoa_satisfiable.specs.declared.wide_table.WideTable.{WideTable}
 use Rattle.omega_hoa_satisfiable.specs.private.WideWords.{AreNodesOf, AreWords, block_word}
+use Rattle.omega_hoa_satisfiable.specs.private.ReadCubes.{AreTrueWords}
 use Rattle.omega_hoa_satisfiable.specs.private.Words.{is_low, pattern, propositions_of, twelve, word_among, word_of}
 use Rattle.omega_hoa_satisfiable.proofs.TruthTables.{all-among, both-true, true-both}
 use Rattle.omega_hoa_satisfiable.proofs.Valuations.{among, number_of, number_of-higher, number_of-lowest, number_of-lt, pattern-bit, truth-agree}
@@ -60,19 +61,19 @@ twelve-truth tree number low =
     ∙ truth-agree (held_in (word_among (number / 64) 0 twelve) (number % 64)) (valuation number) tree
     (λ p mentioned. twelve-bit number p (low-below tree low p mentioned))
 
--- the words that the nodes of a label make are its truth table
-pub wide-table : (tree : LabelTree) (nodes : List LabelNode) (table : WideTable) → MentionsLow tree → AreNodesOf nodes tree
-    → AreWords nodes table.words.items 64 → IsWideTable tree table
-wide-table tree nodes table low make words = record {
-  low = low;
-  agrees = λ number within.
-      let inside : number / 64 < 64 = omega arith in
-      ap (λ word. on word (number % 64)) (words.made (number / 64) inside ∙ make (number / 64)) ∙ twelve-truth tree number low;
-}
-
 -- the nodes of a label make its words
 pub nodes-make : (tree : LabelTree) (nodes : List LabelNode) → nodes ≡ postfix tree → AreNodesOf nodes tree
 nodes-make tree nodes are block = word-is (word_among block 0 twelve) tree nodes (block_word nodes block) are refl
+
+-- and these are its truth
+pub passes-true : (tree : LabelTree) (nodes : List LabelNode) (words : List ℕ) → MentionsLow tree → nodes ≡ postfix tree → AreWords nodes words 64
+    → AreTrueWords tree words
+passes-true tree nodes words low are made = record {
+  counted = made.counted;
+  agrees = λ number bound.
+      let inside : number / 64 < 64 = omega (arith, bound) in
+      ap (λ word. on word (number % 64)) (made.made (number / 64) inside ∙ nodes-make tree nodes are (number / 64)) ∙ twelve-truth tree number low;
+}
 
 -- ---- two labels together
 

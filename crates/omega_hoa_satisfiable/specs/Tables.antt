@@ -1,5 +1,5 @@
 -- The truth tables of labels over the propositions below six, and of those below twelve.
-use Rattle.std.specs.Prelude.{◌≡◌, ℕ, ◌<◌, ◌/◌, ◌%◌, Bool, true, ◌==◌, nat_lt, get_or}
+use Rattle.std.specs.Prelude.{◌≡◌, ℕ, ◌<◌, ◌/◌, ◌%◌, Bool, true, ◌==◌, nat_lt, get_or, length}
 use Rattle.std.specs.Int.{bit_at}
 use Rattle.std.specs.List.{list_all}
 use Rattle.omega_hoa_label.specs.Label.{LabelTree, propositions, truth}
@@ -27,5 +27,6 @@ MentionsLow tree = list_all (λ number. nat_lt number 12) (propositions tree) �
 -- its truth table, 64 valuations a word
 pub record IsWideTable (tree : LabelTree) (table : WideTable) : Type 0 where
   pub low : MentionsLow tree
+  pub counted : length table.words.items ≡ 64
   pub agrees : (number : ℕ) → number < 4096
       → valuation (get_or table.words.items (number / 64) 0) (number % 64) ≡ truth (valuation number) tree

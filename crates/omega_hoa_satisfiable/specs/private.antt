@@ -6,6 +6,7 @@ pub mod Leading
 pub mod Encoding
 pub mod LiteralLanes
 pub mod Pending
+pub mod ReadCubes
 pub mod ReadLiterals
 pub mod Remaining
 pub mod Visits

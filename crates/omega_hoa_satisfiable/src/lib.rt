@@ -4,15 +4,18 @@
 //! all their valuations (`satisfying`), 64 at once in the bits of a word (`words`, `mentioned`), and so are two labels
 //! together (`together`). Those under the valuations of the first six propositions are its truth table (`tables`), and
 //! those of the first twelve its wide table (`wide_table`), with which literals are compared lane by lane
-//! (`literal_lanes`). Another label is turned into steps of a search (`steps`, `encoding`) part by part (`part`,
-//! `exits`), while left parts wait on a stack (`left_parts`). The search goes from step to step (`search`), and its
-//! open branches lie on a stack too (`branches`).
+//! (`literal_lanes`). Conjunctions of literals that are joined by `|` are read one after the other (`cube_reader`), and
+//! their lanes added up make the wide table (`cube_words`). Another label is turned into steps of a search (`steps`,
+//! `encoding`) part by part (`part`, `exits`), while left parts wait on a stack (`left_parts`). The search goes from
+//! step to step (`search`), and its open branches lie on a stack too (`branches`).
 //!
 //! docs/formats.md says when each [`Refusal`] comes.
 #![tactic(auto)]
 
 mod answer;
 mod branches;
+mod cube_reader;
+mod cube_words;
 mod encoding;
 mod exits;
 mod laws;

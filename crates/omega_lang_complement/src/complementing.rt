@@ -44,8 +44,9 @@ use std::alloc::Global;
 ///
 /// So the complement is within the limits of automata that are read. Only its text may be longer than `MOST_TEXT`.
 ///
-/// Judges each two edges of a state together, and the letters that all of them leave out. A state with an edge for each
-/// valuation needs no judging.
+/// Judges each two edges of a state together, but for many conjunctions of literals over the first twelve propositions,
+/// which are added up, and the letters that all of them leave out. A state with an edge for each valuation needs no
+/// judging.
 pub fn complement(alloc: Global, automaton: &Automaton) -> Result<Automaton, Refusal>
     ensures complement { IfOk result (IsComplement automaton.now) }
     ensures given { OnOk result (HasComplement automaton.now) }

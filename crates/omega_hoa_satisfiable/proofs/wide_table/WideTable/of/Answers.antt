@@ -1,7 +1,7 @@
--- The words of the nodes are the label's.
+-- The words are the label's truth.
 use Rattle.std.proofs.Common.{ap, arith}
 use Rattle.omega_hoa_satisfiable.specs.private.Words.{peak}
-use Rattle.omega_hoa_satisfiable.proofs.WideTables.{nodes-make, wide-table}
+use Rattle.omega_hoa_satisfiable.proofs.CubeWords.{true-table}
 use Rattle.omega_hoa_satisfiable.proofs.WordLemmas.{peak-label}
 use Rattle.omega_hoa_satisfiable.proofs.wide_table.WideTable.of.Goals as goal
 
@@ -10,5 +10,5 @@ words_of-requires c = omega (arith, ap (peak 0) c.nodes.ensures.nodes, peak-labe
 
 pub returns-clause-table : goal.returns-clause-table
 returns-clause-table c =
-    wide-table c.args.label.now c.nodes.result.now _ (c.mentions_low.ensures c.if-not-mentions_low.false) (nodes-make c.args.label.now c.nodes.result.now c.nodes.ensures.nodes)
-    c.in_ok-words.ensures.words
+    let low = c.mentions_low.ensures c.if-not-mentions_low.false in
+    true-table c.args.label.now _ low (c.in_ok-words.ensures.words c.args.label.now low c.nodes.ensures.nodes)
