@@ -16,8 +16,6 @@ mod number;
 mod properties;
 mod reading;
 mod symbols;
-#[cfg(test)]
-mod tests;
 mod writing;
 
 pub use beginning::begins_as_circuit;

@@ -17,7 +17,7 @@ use std::alloc::{AllocError, Global};
 use std::marker::Model;
 
 /// A circuit of and-gates and latches: each variable that is used has one definition, which doesn't lead back to it.
-#[derive(Debug, Drop)]
+#[derive(Debug)]
 pub struct Circuit {
     inputs: Seq<u32>,
     latches: Seq<Latch>,
@@ -26,6 +26,19 @@ pub struct Circuit {
     symbols: Seq<Symbol>,
     /// The wires, each gate after those that it uses.
     pub(crate) wires: Wires,
+}
+
+impl Drop for Circuit {
+    fn drop(self) {
+        let Circuit {
+            inputs: _,
+            latches: _,
+            outputs: _,
+            gates: _,
+            symbols: _,
+            wires: _,
+        } = self;
+    }
 }
 
 impl Model for Circuit {

@@ -19,8 +19,6 @@ mod parts;
 mod properties;
 mod round;
 mod symbol;
-#[cfg(test)]
-mod tests;
 mod variables;
 mod wiring;
 

@@ -43,7 +43,7 @@ impl SymbolKind {
 }
 
 /// The name of one input, latch, output or property.
-#[derive(Debug, Drop)]
+#[derive(Debug)]
 pub struct Symbol {
     /// What it names.
     pub kind: SymbolKind,
@@ -51,4 +51,14 @@ pub struct Symbol {
     pub position: u32,
     /// The name, of any bytes.
     pub name: ByteString,
+}
+
+impl Drop for Symbol {
+    fn drop(self) {
+        let Symbol {
+            kind: _,
+            position: _,
+            name: _,
+        } = self;
+    }
 }

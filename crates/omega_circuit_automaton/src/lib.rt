@@ -16,11 +16,10 @@ mod labels;
 mod names;
 mod splitting;
 mod ternary;
-#[cfg(test)]
-mod tests;
 mod valuations;
 
 pub use automaton::circuit_automaton;
+pub use names::proposition_names;
 pub use omega_circuit::Circuit;
 pub use omega_hoa_automaton::Automaton;
 pub use omega_text::Refusal;

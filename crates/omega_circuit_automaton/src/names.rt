@@ -19,13 +19,12 @@ use omega_hoa_automaton::MOST_PROPOSITIONS;
 use omega_text::{AutomatonFault, ByteString, CircuitFault, Refusal, write_number};
 use std::alloc::Global;
 
-/// Returns the names of the inputs and then those of the outputs. Fails with [AutomatonFault::Proposition] if two of
-/// them are alike or they are over `MOST_PROPOSITIONS`, else with [CircuitFault::Name] if a name is no string of the
-/// Hanoi format (HOA v1, tokens).
-pub(crate) fn proposition_names(
-    alloc: Global,
-    circuit: &Circuit,
-) -> Result<Vec<ByteString>, Refusal>
+/// Returns the names of the inputs and then those of the outputs, as they are the propositions of the automaton. Takes
+/// linear time in the symbols, and compares each name with each other one.
+///
+/// Fails with [AutomatonFault::Proposition] if two of them are alike or they are over `MOST_PROPOSITIONS`, else with
+/// [CircuitFault::Name] if a name is no string of the Hanoi format (HOA v1, tokens).
+pub fn proposition_names(alloc: Global, circuit: &Circuit) -> Result<Vec<ByteString>, Refusal>
     ensures names { IfOk result (λ names. names.items ≡ proposition_names circuit.now) }
     ensures few { OnOk result
         (length circuit.now.inputs + length circuit.now.outputs ≤ most_propositions) }

@@ -22,8 +22,6 @@ mod network;
 mod parting;
 mod parts;
 mod pruning;
-#[cfg(test)]
-mod tests;
 mod witness;
 
 pub use encoder::circuit_of_controller;

@@ -20,8 +20,6 @@ mod parts;
 mod question;
 mod questions;
 mod state_edges;
-#[cfg(test)]
-mod tests;
 mod words;
 
 pub use candidate::{complete_candidate, deterministic_candidate};

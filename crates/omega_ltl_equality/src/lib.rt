@@ -12,8 +12,6 @@ mod deciding;
 mod formula_equality;
 mod judging;
 pub mod laws;
-#[cfg(test)]
-mod tests;
 
 pub use deciding::decide_formula_equality;
 pub use formula_equality::FormulaEquality;

@@ -17,7 +17,7 @@ const FEW_STATES: u32 = 256;
 const MOST_TIMES: u32 = 8;
 
 /// A part of a formula as a deterministic automaton.
-#[derive(Debug, Drop)]
+#[derive(Debug)]
 pub struct Leaf {
     /// The automaton.
     pub automaton: DeterministicAutomaton,
@@ -25,6 +25,16 @@ pub struct Leaf {
     pub names: Seq<u32>,
     /// Whether the part holds of the words that the automaton does not accept, else of those that it accepts.
     pub is_negated: bool,
+}
+
+impl Drop for Leaf {
+    fn drop(self) {
+        let Leaf {
+            automaton: _,
+            names: _,
+            is_negated: _,
+        } = self;
+    }
 }
 
 /// Returns a leaf: the smaller of the deterministic automata of a part of a formula and of its negation. The second is

@@ -13,8 +13,6 @@ mod parts;
 mod product_search;
 mod residues;
 mod splitting;
-#[cfg(test)]
-mod tests;
 mod truths;
 mod wide_letters;
 mod zielonka_tree;

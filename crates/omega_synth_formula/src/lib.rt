@@ -28,6 +28,3 @@ pub use omega_hoa_automaton::{Automaton, Refusal};
 pub use omega_ltl_formula::Formula;
 pub use omega_ltl_satisfaction::Example;
 pub use omega_synth_check::Lack;
-
-#[cfg(test)]
-mod tests;

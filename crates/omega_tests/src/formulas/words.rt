@@ -1,9 +1,8 @@
 //! Words as stems and cycles of letters.
-use crate::DeterministicAutomaton;
-use omega_ltl_determinization::has_letter;
+use omega_ltl_determinization::{DeterministicAutomaton, Refusal, has_letter};
 
 /// The stem and the cycle of a word, and whether it is accepted.
-pub(crate) type WordRow<'a> = (&'a [u32], &'a [u32], bool);
+pub(super) type WordRow = (&'static [u32], &'static [u32], bool);
 
 /// A place on the run of a word, or none where no edge leads on, and the least colour since the count began.
 #[derive(Clone, Copy)]
@@ -56,12 +55,24 @@ fn accepts(automaton: &DeterministicAutomaton, stem: &[u32], cycle: &[u32]) -> b
     place.state.is_some() && place.least % 2 == 0
 }
 
-/// Returns the index of the first word of which the automaton says another thing than the row, or their number.
-pub(crate) fn first_wrong(automaton: &DeterministicAutomaton, words: &[WordRow<'_>]) -> usize {
-    for (index, word) in words.iter().enumerate() {
-        if accepts(automaton, word.0, word.1) != word.2 {
-            return index;
+/// Whether an automaton has so many states, and accepts these words as they are said to be.
+fn is_as_said(automaton: &DeterministicAutomaton, states: u32, words: &[WordRow]) -> bool {
+    for (stem, cycle, accepted) in words {
+        if accepts(automaton, stem, cycle) != *accepted {
+            return false;
         }
     }
-    words.len()
+    automaton.state_count() == states
+}
+
+/// Whether an automaton was made that is as it is said to be.
+pub(super) fn is_made_as_said(
+    made: &Result<DeterministicAutomaton, Refusal>,
+    states: u32,
+    words: &[WordRow],
+) -> bool {
+    match made {
+        Ok(automaton) => is_as_said(automaton, states, words),
+        Err(_) => false,
+    }
 }

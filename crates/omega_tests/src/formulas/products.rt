@@ -1,13 +1,15 @@
 //! Combinations of formulas.
 ghost use Rattle.std.specs.Prelude.{◌<◌};
 
-use crate::Combination::{And, Constant, Iff, Not, Or};
-use crate::tests::automata::*;
-use crate::tests::words::{WordRow, first_wrong};
-use crate::{Combination, Leaf, Refusal, leaf_of, product};
+use crate::formulas::edges::*;
+use crate::formulas::words::{WordRow, is_made_as_said};
+use crate::rows::assert_row;
 use omega_graph_search::number_of;
+use omega_ltl_parity_product::Combination::{And, Constant, Iff, Not, Or};
+use omega_ltl_parity_product::{
+    Combination, DeterministicAutomaton, Leaf, NondeterministicAutomaton, Refusal, leaf_of, product,
+};
 use std::alloc::Global;
-use std::test::Fail;
 
 /// The automaton of a formula and that of its negation, with one set each.
 type FormulaRow = (&'static [EdgeRow], &'static [EdgeRow]);
@@ -24,11 +26,11 @@ type ProductRow = (
     u32,
     &'static [LeafRow],
     &'static [Combination],
-    &'static [WordRow<'static>],
+    &'static [WordRow],
     u32,
 );
 
-const PRODUCTS: [ProductRow; 7] = [
+static PRODUCTS: [ProductRow; 7] = [
     // One leaf.
     (
         1,
@@ -103,48 +105,59 @@ const PRODUCTS: [ProductRow; 7] = [
 
 /// Returns the leaf of a formula over names with these numbers.
 fn leaf_over(alloc: Global, formula: FormulaRow, names: &[u32]) -> Result<Leaf, Refusal> {
-    let count = number_of(names.len());
-    let one = automaton_of(alloc, count, 1, formula.0)?;
-    let other = automaton_of(alloc, count, 1, formula.1)?;
-    leaf_of(alloc, &one, &other, Vec::from_slice(alloc, names)?)
-}
-
-/// Whether a product has so many states and judges these words.
-fn is_as_said(
-    alloc: Global,
-    names: u32,
-    leaves: &[Leaf],
-    nodes: &[Combination],
-    words: &[WordRow<'_>],
-    states: u32,
-) -> Result<bool, Refusal> {
-    let found = product(alloc, names, leaves, nodes)?;
-    Ok(found.state_count() == states && first_wrong(&found, words) == words.len())
-}
-
-/// Whether the product of a row is as it says.
-fn is_row_as_said(alloc: Global, row: &ProductRow) -> Result<bool, Refusal> {
-    let mut leaves = Vec::new(alloc);
-    for leaf in row.1 {
-        leaves.push(leaf_over(alloc, leaf.0, leaf.1)?)?;
+    let list = Vec::from_slice(alloc, names)?;
+    match automaton_of(alloc, number_of(names.len()), 1, formula.0) {
+        Ok(one) => leaf_beside(alloc, &one, formula.1, list),
+        Err(refusal) => Err(refusal),
     }
-    is_as_said(alloc, row.0, leaves.as_slice(), row.2, row.3, row.4)
 }
 
-#[test]
-fn products(rt: HostRuntime) -> Result<(), Fail> {
-    for row in &PRODUCTS {
-        assert!(rt; is_row_as_said(rt.alloc(), row)?, "a product");
+/// Returns the leaf of a formula by its automaton and the edges of that of its negation.
+fn leaf_beside(
+    alloc: Global,
+    one: &NondeterministicAutomaton,
+    edges: &[EdgeRow],
+    names: Vec<u32>,
+) -> Result<Leaf, Refusal> {
+    match automaton_of(alloc, number_of(names.len()), 1, edges) {
+        Ok(other) => leaf_of(alloc, one, &other, names),
+        Err(refusal) => Err(refusal),
+    }
+}
+
+/// Adds the leaves of formulas.
+fn add_leaves(alloc: Global, formulas: &[LeafRow], leaves: &mut Vec<Leaf>) -> Result<(), Refusal> {
+    for (formula, names) in formulas {
+        leaves.push(leaf_over(alloc, *formula, names)?)?;
     }
     Ok(())
 }
 
+/// Returns the product of a row.
+fn product_of(alloc: Global, row: &ProductRow) -> Result<DeterministicAutomaton, Refusal> {
+    let (names, formulas, nodes, _, _) = *row;
+    let mut leaves = Vec::new(alloc);
+    match add_leaves(alloc, formulas, &mut leaves) {
+        Ok(()) => product(alloc, names, leaves.as_slice(), nodes),
+        Err(refusal) => Err(refusal),
+    }
+}
+
+#[test]
+fn products_are_as_said(rt: HostRuntime) {
+    for (row, one) in PRODUCTS.iter().enumerate() {
+        let (_, _, _, words, states) = *one;
+        let made = product_of(rt.alloc(), one);
+        assert_row(&rt, row, is_made_as_said(&made, states, words));
+    }
+}
+
 /// How many clients an arbiter has, words, and how many states its automaton has.
-type ArbiterRow = (u32, &'static [WordRow<'static>], u32);
+type ArbiterRow = (u32, &'static [WordRow], u32);
 
 // Which clients wait, and for which of them the Zielonka tree waits: n * 2^n, over up to four words for each set of
 // letters.
-const ARBITERS: [ArbiterRow; 3] = [
+static ARBITERS: [ArbiterRow; 3] = [
     (
         2,
         &[
@@ -176,12 +189,11 @@ const ARBITERS: [ArbiterRow; 3] = [
     ),
 ];
 
-/// Returns the leaves of an arbiter of `clients` clients: each request is granted, and no two grants come together. The
+/// Adds the leaves of an arbiter of `clients` clients: each request is granted, and no two grants come together. The
 /// name 2i is a request of the client i, and the name 2i + 1 a grant.
-fn arbiter(alloc: Global, clients: u32) -> Result<Vec<Leaf>, Refusal>
+fn add_arbiter(alloc: Global, clients: u32, leaves: &mut Vec<Leaf>) -> Result<(), Refusal>
     requires { clients < 8 }
 {
-    let mut leaves = Vec::new(alloc);
     for client in 0..clients {
         let names = [2 * client, 2 * client + 1];
         leaves.push(leaf_over(alloc, (&RESPONSE, &NOT_RESPONSE), &names)?)?;
@@ -190,41 +202,42 @@ fn arbiter(alloc: Global, clients: u32) -> Result<Vec<Leaf>, Refusal>
             leaves.push(leaf_over(alloc, (&EXCLUSION, &NOT_EXCLUSION), &names)?)?;
         }
     }
-    Ok(leaves)
+    Ok(())
 }
 
-/// Returns the conjunction of so many leaves.
-fn conjunction(alloc: Global, leaves: u32) -> Result<Vec<Combination>, Refusal> {
+/// Returns the product of the conjunction of leaves.
+fn conjunction(
+    alloc: Global,
+    names: u32,
+    leaves: &[Leaf],
+) -> Result<DeterministicAutomaton, Refusal> {
+    let count = number_of(leaves.len());
     let mut nodes = Vec::new(alloc);
-    for leaf in 0..leaves {
+    for leaf in 0..count {
         nodes.push(Combination::Leaf(leaf))?;
     }
     nodes.push(Constant(true))?;
-    for leaf in 0..leaves {
-        nodes.push(And(leaves.wrapping_add(leaf), leaf))?;
+    for leaf in 0..count {
+        nodes.push(And(count.wrapping_add(leaf), leaf))?;
     }
-    Ok(nodes)
+    product(alloc, names, leaves, nodes.as_slice())
 }
 
-/// Whether the automaton of an arbiter is as a row says.
-fn is_arbiter_as_said(alloc: Global, row: &ArbiterRow) -> Result<bool, Refusal> {
-    let clients = row.0.min(7);
-    let leaves = arbiter(alloc, clients)?;
-    let nodes = conjunction(alloc, number_of(leaves.len()))?;
-    is_as_said(
-        alloc,
-        2 * clients,
-        leaves.as_slice(),
-        nodes.as_slice(),
-        row.1,
-        row.2,
-    )
+/// Returns the product of an arbiter of so many clients.
+fn arbiter_product(alloc: Global, clients: u32) -> Result<DeterministicAutomaton, Refusal>
+    requires { clients < 8 }
+{
+    let mut leaves = Vec::new(alloc);
+    match add_arbiter(alloc, clients, &mut leaves) {
+        Ok(()) => conjunction(alloc, 2 * clients, leaves.as_slice()),
+        Err(refusal) => Err(refusal),
+    }
 }
 
 #[test]
-fn arbiters(rt: HostRuntime) -> Result<(), Fail> {
-    for row in &ARBITERS {
-        assert!(rt; is_arbiter_as_said(rt.alloc(), row)?, "an arbiter");
+fn arbiters_are_as_said(rt: HostRuntime) {
+    for (row, (clients, words, states)) in ARBITERS.iter().enumerate() {
+        let made = arbiter_product(rt.alloc(), (*clients).min(7));
+        assert_row(&rt, row, is_made_as_said(&made, *states, words));
     }
-    Ok(())
 }

@@ -1,11 +1,11 @@
 //! Automata and formulas whose answers are worked out by hand.
-use crate::{
+use crate::rows::assert_row;
+use omega_hoa::read_one;
+use omega_ltl_equality::{
     Automaton, Formula, FormulaEquality, Refusal, decide_formula_equality, judged_automaton,
 };
-use omega_hoa::read_one;
 use omega_ltl_text::read_formula;
 use std::alloc::Global;
-use std::test::Fail;
 
 /// Whenever `a` comes, its edge is marked.
 const OFTEN_A: &str = "HOA: v1\nStates: 1\nStart: 0\nAP: 1 \"a\"\nAcceptance: 1 Inf(0)\n--BODY--\n\
@@ -101,181 +101,149 @@ const BRANCHING: &str = "HOA: v1\nStates: 2\nStart: 0&1\nAP: 1 \"a\"\nAcceptance
     State: 0\n[t] 0\nState: 1\n[t] 1\n--END--\n";
 
 /// What is answered: an answer without its counterexample, or the number of the refusal.
-#[derive(Clone, Copy, Debug, PartialEq, Eq)]
-enum Told {
+#[derive(Clone, Copy, PartialEq, Eq)]
+enum Outcome {
     Equal,
     Excess,
     Missing,
     Refused(u32),
 }
 
-/// A name, an automaton, a formula, and what is answered.
-type Row = (&'static str, &'static str, &'static str, Told);
-
-const ROWS: [Row; 47] = [
-    ("GF a", OFTEN_A, "G F a", Told::Equal),
-    ("GF a of its negation", OFTEN_A, "!G F a", Told::Excess),
-    ("GF a, mark moved", OFTEN_NOT_A, "G F a", Told::Excess),
-    ("GF !a", OFTEN_NOT_A, "G F !a", Told::Equal),
-    ("GF a, mark more", EACH_WORD, "G F a", Told::Excess),
-    ("GF a, mark less", NO_WORD, "G F a", Told::Missing),
-    ("each word", EACH_WORD, "1", Told::Equal),
-    ("each word of none", EACH_WORD, "0", Told::Excess),
-    ("no word", NO_WORD, "0", Told::Equal),
-    ("no word of each", NO_WORD, "1", Told::Missing),
-    ("a or not", EACH_WORD, "G(a | !a)", Told::Equal),
-    ("FG a", AT_LAST_A, "F G a", Told::Equal),
-    ("FG a, mark moved", AT_LAST_NOT_A, "F G a", Told::Excess),
-    ("FG a of GF a", AT_LAST_A, "G F a", Told::Missing),
-    ("GF a of FG a", OFTEN_A, "F G a", Told::Excess),
-    ("GF a and GF b", OFTEN_BOTH, "G F a & G F b", Told::Equal),
-    (
-        "second conjunct forgotten",
-        OFTEN_A,
-        "G F a & G F b",
-        Told::Excess,
-    ),
-    ("a conjunct more", OFTEN_BOTH, "G F a", Told::Missing),
-    ("GF a or GF b", OFTEN_EITHER, "G F a | G F b", Told::Equal),
-    ("GF (a or b)", OFTEN_EITHER, "G F (a | b)", Told::Equal),
-    ("a disjunct more", OFTEN_EITHER, "G F a", Told::Excess),
-    (
-        "second disjunct forgotten",
-        OFTEN_A,
-        "G F a | G F b",
-        Told::Missing,
-    ),
-    ("response", RESPONSE, "G(p -> F q)", Told::Equal),
-    (
-        "response by others",
-        RESPONSE,
-        "G F q | F G !p & G(p -> F q)",
-        Told::Equal,
-    ),
-    (
-        "response, mark more that changes nothing",
-        RESPONSE_MARKED_TWICE,
-        "G(p -> F q)",
-        Told::Equal,
-    ),
-    (
-        "response, mark less",
-        RESPONSE_UNMARKED,
-        "G(p -> F q)",
-        Told::Missing,
-    ),
-    (
-        "response, mark more",
-        RESPONSE_WAITING,
-        "G(p -> F q)",
-        Told::Excess,
-    ),
-    (
-        "response, another start",
-        RESPONSE_BEGUN,
-        "G(p -> F q)",
-        Told::Missing,
-    ),
-    (
-        "response, another start, equal",
-        RESPONSE_BEGUN,
-        "F q & G(p -> F q)",
-        Told::Equal,
-    ),
-    ("until", UNTIL, "a U b", Told::Equal),
-    (
-        "until, label of an edge",
-        UNTIL_WITHOUT_A,
-        "a U b",
-        Told::Excess,
-    ),
-    ("finally", UNTIL_WITHOUT_A, "F b", Told::Equal),
-    ("until, mark more", UNTIL_WEAK, "a U b", Told::Excess),
-    ("weak until", UNTIL_WEAK, "a W b", Told::Equal),
-    ("until, edge less", UNTIL_AT_ONCE, "a U b", Told::Missing),
-    ("next", NEXT_A, "X a", Told::Equal),
-    ("next, label turned", NEXT_NOT_A, "X a", Told::Excess),
-    ("next, label wider", NEXT_ANY, "X a", Told::Excess),
-    ("next, label narrower", A_AND_NEXT_A, "X a", Told::Missing),
-    ("next, another name", NEXT_B, "X a", Told::Excess),
-    ("guess", GUESSED_A, "F G a", Told::Refused(56)),
-    (
-        "guess of fewer words",
-        GUESSED_A,
-        "G F a",
-        Told::Refused(56),
-    ),
-    ("guess of more words", GUESSED_A, "G a", Told::Excess),
-    ("two starts", TWO_STARTS, "G a", Told::Refused(56)),
-    (
-        "two starts and more words",
-        TWO_STARTS,
-        "G !a",
-        Told::Excess,
-    ),
-    ("branching", BRANCHING, "1", Told::Refused(41)),
-    (
-        "branching before all else",
-        BRANCHING,
-        "0",
-        Told::Refused(41),
-    ),
+/// An automaton, a formula, and what is answered.
+static ANSWERS: [(&str, &str, Outcome); 47] = [
+    (OFTEN_A, "G F a", Outcome::Equal),
+    (OFTEN_A, "!G F a", Outcome::Excess),
+    (OFTEN_NOT_A, "G F a", Outcome::Excess),
+    (OFTEN_NOT_A, "G F !a", Outcome::Equal),
+    (EACH_WORD, "G F a", Outcome::Excess),
+    (NO_WORD, "G F a", Outcome::Missing),
+    (EACH_WORD, "1", Outcome::Equal),
+    (EACH_WORD, "0", Outcome::Excess),
+    (NO_WORD, "0", Outcome::Equal),
+    (NO_WORD, "1", Outcome::Missing),
+    (EACH_WORD, "G(a | !a)", Outcome::Equal),
+    (AT_LAST_A, "F G a", Outcome::Equal),
+    (AT_LAST_NOT_A, "F G a", Outcome::Excess),
+    (AT_LAST_A, "G F a", Outcome::Missing),
+    (OFTEN_A, "F G a", Outcome::Excess),
+    (OFTEN_BOTH, "G F a & G F b", Outcome::Equal),
+    (OFTEN_A, "G F a & G F b", Outcome::Excess),
+    (OFTEN_BOTH, "G F a", Outcome::Missing),
+    (OFTEN_EITHER, "G F a | G F b", Outcome::Equal),
+    (OFTEN_EITHER, "G F (a | b)", Outcome::Equal),
+    (OFTEN_EITHER, "G F a", Outcome::Excess),
+    (OFTEN_A, "G F a | G F b", Outcome::Missing),
+    (RESPONSE, "G(p -> F q)", Outcome::Equal),
+    (RESPONSE, "G F q | F G !p & G(p -> F q)", Outcome::Equal),
+    (RESPONSE_MARKED_TWICE, "G(p -> F q)", Outcome::Equal),
+    (RESPONSE_UNMARKED, "G(p -> F q)", Outcome::Missing),
+    (RESPONSE_WAITING, "G(p -> F q)", Outcome::Excess),
+    (RESPONSE_BEGUN, "G(p -> F q)", Outcome::Missing),
+    (RESPONSE_BEGUN, "F q & G(p -> F q)", Outcome::Equal),
+    (UNTIL, "a U b", Outcome::Equal),
+    (UNTIL_WITHOUT_A, "a U b", Outcome::Excess),
+    (UNTIL_WITHOUT_A, "F b", Outcome::Equal),
+    (UNTIL_WEAK, "a U b", Outcome::Excess),
+    (UNTIL_WEAK, "a W b", Outcome::Equal),
+    (UNTIL_AT_ONCE, "a U b", Outcome::Missing),
+    (NEXT_A, "X a", Outcome::Equal),
+    (NEXT_NOT_A, "X a", Outcome::Excess),
+    (NEXT_ANY, "X a", Outcome::Excess),
+    (A_AND_NEXT_A, "X a", Outcome::Missing),
+    (NEXT_B, "X a", Outcome::Excess),
+    (GUESSED_A, "F G a", Outcome::Refused(56)),
+    (GUESSED_A, "G F a", Outcome::Refused(56)),
+    (GUESSED_A, "G a", Outcome::Excess),
+    (TWO_STARTS, "G a", Outcome::Refused(56)),
+    (TWO_STARTS, "G !a", Outcome::Excess),
+    (BRANCHING, "1", Outcome::Refused(41)),
+    (BRANCHING, "0", Outcome::Refused(41)),
 ];
 
-/// Returns what is answered to the texts of an automaton and of a formula.
-fn answer_to(alloc: Global, automaton: &str, formula: &str) -> Result<Told, Refusal> {
-    let automaton = read_one(alloc, automaton.as_bytes())?;
-    let formula = read_formula(alloc, formula.as_bytes())?;
-    Ok(answer_of(alloc, &automaton, &formula))
-}
-
-fn answer_of(alloc: Global, automaton: &Automaton, formula: &Formula) -> Told {
-    match decide_formula_equality(alloc, automaton, formula) {
-        Ok(FormulaEquality::Equal) => Told::Equal,
-        Ok(FormulaEquality::Excess(_)) => Told::Excess,
-        Ok(FormulaEquality::Missing(_)) => Told::Missing,
-        Err(refusal) => Told::Refused(refusal.number()),
+/// Returns what is answered.
+fn outcome_of(answer: Result<FormulaEquality, Refusal>) -> Outcome {
+    match answer {
+        Ok(FormulaEquality::Equal) => Outcome::Equal,
+        Ok(FormulaEquality::Excess(_)) => Outcome::Excess,
+        Ok(FormulaEquality::Missing(_)) => Outcome::Missing,
+        Err(refusal) => Outcome::Refused(refusal.number()),
     }
 }
 
-/// Returns how many states the judged automaton has, or the number of the refusal.
-fn judged(alloc: Global, automaton: &str, formula: &str) -> Result<Result<u32, u32>, Refusal> {
-    let automaton = read_one(alloc, automaton.as_bytes())?;
-    let formula = read_formula(alloc, formula.as_bytes())?;
-    match judged_automaton(alloc, automaton, &formula) {
-        Ok(automaton) => Ok(Ok(automaton.state_count())),
-        Err(refusal) => Ok(Err(refusal.number())),
+/// Returns what is answered to the automaton of a text and a formula.
+fn outcome_with(alloc: Global, automaton: &str, formula: &Formula) -> Outcome {
+    match read_one(alloc, automaton.as_bytes()) {
+        Ok(automaton) => outcome_of(decide_formula_equality(alloc, &automaton, formula)),
+        Err(refusal) => Outcome::Refused(refusal.number()),
+    }
+}
+
+/// Returns what is answered to an automaton and a formula as texts.
+fn outcome_of_texts(alloc: Global, automaton: &str, formula: &str) -> Outcome {
+    match read_formula(alloc, formula.as_bytes()) {
+        Ok(formula) => outcome_with(alloc, automaton, &formula),
+        Err(refusal) => Outcome::Refused(refusal.number()),
     }
 }
 
 #[test]
-fn answers_are_those_worked_out_by_hand(rt: HostRuntime) -> Result<(), Fail> {
-    for (name, automaton, formula, wanted) in ROWS {
-        assert_eq!(rt;
-            answer_to(rt.alloc(), automaton, formula)?,
-            wanted,
-            "{name}"
+fn answers_are_those_worked_out_by_hand(rt: HostRuntime) {
+    for (row, (automaton, formula, wanted)) in ANSWERS.iter().enumerate() {
+        assert_row(
+            &rt,
+            row,
+            outcome_of_texts(rt.alloc(), automaton, formula) == *wanted,
         );
     }
-    Ok(())
+}
+
+/// An automaton, a formula, how many states the judged automaton has, and the number of the refusal, or 0.
+static JUDGED: [(&str, &str, u32, u32); 7] = [
+    (RESPONSE, "G(p -> F q)", 2, 0),
+    (NEXT_A, "X a", 3, 0),
+    (RESPONSE_WAITING, "G(p -> F q)", 0, 59),
+    (RESPONSE_UNMARKED, "G(p -> F q)", 0, 59),
+    (GUESSED_A, "F G a", 0, 59),
+    (TWO_STARTS, "G a", 0, 59),
+    (BRANCHING, "1", 0, 59),
+];
+
+/// Returns the judged automaton of a text.
+fn judged_automaton_in(
+    alloc: Global,
+    automaton: &str,
+    formula: &Formula,
+) -> Result<Automaton, Refusal> {
+    match read_one(alloc, automaton.as_bytes()) {
+        Ok(automaton) => judged_automaton(alloc, automaton, formula),
+        Err(refusal) => Err(refusal),
+    }
+}
+
+/// Whether an automaton of so many states was made, or this refusal came.
+fn is_made(made: &Result<Automaton, Refusal>, states: u32, number: u32) -> bool {
+    match made {
+        Ok(automaton) => automaton.state_count() == states && number == 0,
+        Err(refusal) => refusal.number() == number,
+    }
+}
+
+/// Whether the automaton of a text is judged so.
+fn is_judged(alloc: Global, automaton: &str, formula: &str, states: u32, number: u32) -> bool {
+    match read_formula(alloc, formula.as_bytes()) {
+        Ok(formula) => is_made(
+            &judged_automaton_in(alloc, automaton, &formula),
+            states,
+            number,
+        ),
+        Err(_) => false,
+    }
 }
 
 #[test]
-fn judged_automata_are_returned_or_called_a_fault(rt: HostRuntime) -> Result<(), Fail> {
-    for (automaton, formula, wanted) in [
-        (RESPONSE, "G(p -> F q)", Ok(2)),
-        (NEXT_A, "X a", Ok(3)),
-        (RESPONSE_WAITING, "G(p -> F q)", Err(59)),
-        (RESPONSE_UNMARKED, "G(p -> F q)", Err(59)),
-        (GUESSED_A, "F G a", Err(59)),
-        (TWO_STARTS, "G a", Err(59)),
-        (BRANCHING, "1", Err(59)),
-    ] {
-        assert_eq!(rt;
-            judged(rt.alloc(), automaton, formula)?,
-            wanted,
-            "{formula}"
-        );
+fn judged_automata_are_returned_or_called_a_fault(rt: HostRuntime) {
+    for (row, (automaton, formula, states, number)) in JUDGED.iter().enumerate() {
+        let holds = is_judged(rt.alloc(), automaton, formula, *states, *number);
+        assert_row(&rt, row, holds);
     }
-    Ok(())
 }

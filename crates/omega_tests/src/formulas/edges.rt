@@ -1,13 +1,14 @@
-//! Nondeterministic automata of single formulas, and words that tell them apart. Bit i of a letter is the name i.
-use crate::tests::words::WordRow;
-use crate::{NondeterministicAutomaton, Refusal};
+//! Nondeterministic automata of single formulas by their edges, and words that tell them apart. Bit i of a letter is
+//! the name i.
+use crate::formulas::words::WordRow;
+use omega_ltl_determinization::{NondeterministicAutomaton, Refusal};
 use std::alloc::Global;
 
 /// The source, the target, the marks and the letters of an edge.
-pub(crate) type EdgeRow = (u32, u32, u64, u64);
+pub(super) type EdgeRow = (u32, u32, u64, u64);
 
 /// Returns the automaton with these edges, which come state by state. Each state has one. Runs begin in the state 0.
-pub(crate) fn automaton_of(
+pub(super) fn automaton_of(
     alloc: Global,
     names: u32,
     sets: u32,
@@ -28,11 +29,11 @@ pub(crate) fn automaton_of(
 }
 
 // `F G a`, and `G F !a`.
-pub(crate) const PERSISTENCE: [EdgeRow; 3] = [(0, 0, 0, 0b11), (0, 1, 1, 0b10), (1, 1, 1, 0b10)];
+pub(super) const PERSISTENCE: [EdgeRow; 3] = [(0, 0, 0, 0b11), (0, 1, 1, 0b10), (1, 1, 1, 0b10)];
 
-pub(crate) const NOT_PERSISTENCE: [EdgeRow; 2] = [(0, 0, 0, 0b10), (0, 0, 1, 0b01)];
+pub(super) const NOT_PERSISTENCE: [EdgeRow; 2] = [(0, 0, 0, 0b10), (0, 0, 1, 0b01)];
 
-pub(crate) const PERSISTENCE_WORDS: [WordRow<'static>; 5] = [
+pub(super) const PERSISTENCE_WORDS: [WordRow; 5] = [
     (&[], &[1], true),
     (&[0, 1, 0], &[1, 1], true),
     (&[], &[0, 1], false),
@@ -41,11 +42,11 @@ pub(crate) const PERSISTENCE_WORDS: [WordRow<'static>; 5] = [
 ];
 
 // `G F a`, and `F G !a`.
-pub(crate) const RECURRENCE: [EdgeRow; 2] = [(0, 0, 0, 0b11), (0, 0, 1, 0b10)];
+pub(super) const RECURRENCE: [EdgeRow; 2] = [(0, 0, 0, 0b11), (0, 0, 1, 0b10)];
 
-pub(crate) const NOT_RECURRENCE: [EdgeRow; 3] = [(0, 0, 0, 0b11), (0, 1, 1, 0b01), (1, 1, 1, 0b01)];
+pub(super) const NOT_RECURRENCE: [EdgeRow; 3] = [(0, 0, 0, 0b11), (0, 1, 1, 0b01), (1, 1, 1, 0b01)];
 
-pub(crate) const RECURRENCE_WORDS: [WordRow<'static>; 4] = [
+pub(super) const RECURRENCE_WORDS: [WordRow; 4] = [
     (&[], &[1], true),
     (&[0], &[0, 1, 0], true),
     (&[1, 1], &[0], false),
@@ -53,26 +54,26 @@ pub(crate) const RECURRENCE_WORDS: [WordRow<'static>; 4] = [
 ];
 
 // `F a`, and `G !a`.
-pub(crate) const FINALLY: [EdgeRow; 3] = [(0, 0, 0, 0b01), (0, 1, 1, 0b10), (1, 1, 1, 0b11)];
+pub(super) const FINALLY: [EdgeRow; 3] = [(0, 0, 0, 0b01), (0, 1, 1, 0b10), (1, 1, 1, 0b11)];
 
-pub(crate) const NOT_FINALLY: [EdgeRow; 1] = [(0, 0, 1, 0b01)];
+pub(super) const NOT_FINALLY: [EdgeRow; 1] = [(0, 0, 1, 0b01)];
 
 // `a U b`: with both the run may stay or leave. Then the same where it has to leave, and `!(a U b)`.
-pub(crate) const UNTIL: [EdgeRow; 3] = [(0, 0, 0, 0b1010), (0, 1, 1, 0b1100), (1, 1, 1, 0b1111)];
+pub(super) const UNTIL: [EdgeRow; 3] = [(0, 0, 0, 0b1010), (0, 1, 1, 0b1100), (1, 1, 1, 0b1111)];
 
-pub(crate) const UNTIL_SPLIT: [EdgeRow; 3] = [
+pub(super) const UNTIL_SPLIT: [EdgeRow; 3] = [
     (0, 0, 0, 0b0010),
     (0, 1, 1, 0b1100),
     (1, 1, 1, 0b1111),
 ];
 
-pub(crate) const NOT_UNTIL: [EdgeRow; 3] = [
+pub(super) const NOT_UNTIL: [EdgeRow; 3] = [
     (0, 0, 1, 0b0010),
     (0, 1, 1, 0b0001),
     (1, 1, 1, 0b1111),
 ];
 
-pub(crate) const UNTIL_WORDS: [WordRow<'static>; 6] = [
+pub(super) const UNTIL_WORDS: [WordRow; 6] = [
     (&[1, 1, 2], &[0], true),
     (&[3], &[0, 1], true),
     (&[1, 3, 3], &[1], true),
@@ -82,20 +83,20 @@ pub(crate) const UNTIL_WORDS: [WordRow<'static>; 6] = [
 ];
 
 // `G(p -> F q)`, and `F(p & G !q)`.
-pub(crate) const RESPONSE: [EdgeRow; 4] = [
+pub(super) const RESPONSE: [EdgeRow; 4] = [
     (0, 0, 1, 0b1101),
     (0, 1, 0, 0b0010),
     (1, 0, 1, 0b1100),
     (1, 1, 0, 0b0011),
 ];
 
-pub(crate) const NOT_RESPONSE: [EdgeRow; 3] = [
+pub(super) const NOT_RESPONSE: [EdgeRow; 3] = [
     (0, 0, 0, 0b1111),
     (0, 1, 1, 0b0010),
     (1, 1, 1, 0b0011),
 ];
 
-pub(crate) const RESPONSE_WORDS: [WordRow<'static>; 5] = [
+pub(super) const RESPONSE_WORDS: [WordRow; 5] = [
     (&[], &[0], true),
     (&[1, 0, 0, 2], &[0], true),
     (&[], &[1, 0, 2], true),
@@ -104,14 +105,14 @@ pub(crate) const RESPONSE_WORDS: [WordRow<'static>; 5] = [
 ];
 
 // `G F a & G F b` in one automaton: one set for each.
-pub(crate) const FAIRNESS: [EdgeRow; 4] = [
+pub(super) const FAIRNESS: [EdgeRow; 4] = [
     (0, 0, 0, 0b0001),
     (0, 0, 1, 0b0010),
     (0, 0, 2, 0b0100),
     (0, 0, 3, 0b1000),
 ];
 
-pub(crate) const FAIRNESS_WORDS: [WordRow<'static>; 4] = [
+pub(super) const FAIRNESS_WORDS: [WordRow; 4] = [
     (&[], &[1, 2], true),
     (&[0], &[2, 0, 1, 1], true),
     (&[3, 3], &[2, 0], false),
@@ -119,9 +120,9 @@ pub(crate) const FAIRNESS_WORDS: [WordRow<'static>; 4] = [
 ];
 
 // `G !(a & b)`, and `F(a & b)`.
-pub(crate) const EXCLUSION: [EdgeRow; 1] = [(0, 0, 1, 0b0111)];
+pub(super) const EXCLUSION: [EdgeRow; 1] = [(0, 0, 1, 0b0111)];
 
-pub(crate) const NOT_EXCLUSION: [EdgeRow; 3] = [
+pub(super) const NOT_EXCLUSION: [EdgeRow; 3] = [
     (0, 0, 0, 0b0111),
     (0, 1, 1, 0b1000),
     (1, 1, 1, 0b1111),
