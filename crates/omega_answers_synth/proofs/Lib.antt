@@ -6,7 +6,9 @@ pub mod FormulaWinning
 mod FormulaExact
 mod Stated
 mod Refused
+mod SizeRefused
 mod Observed
+mod Lifted
 mod Winning
 pub mod Ranges
 pub mod Alike

@@ -8,11 +8,14 @@ use Rattle.omega_game_values.specs.Game.{Node}
 use Rattle.omega_pg.specs.game.Canonical.{canonical_game}
 use Rattle.omega_answers.specs.OneAutomaton.{IsRefusalOfText, OfAutomaton}
 use Rattle.omega_synth_realize.specs.Gaming.{IsRealizabilityGame, IsRealizabilityGameRefusal}
+use Rattle.omega_synth_realize.specs.Refusing.{HasNoLargeGame}
 
--- the game of an automaton, where the system controls the propositions that its item `controllable-AP:` lists
+-- the game of an automaton, which is not too large, where the system controls the propositions that its item
+-- `controllable-AP:` lists
 pub record IsStatedGame (a : Description) (nodes : List Node) : Type 0 where
   pub controlled : List ℕ
   pub stated : IsStated a controlled
+  pub small : HasNoLargeGame a controlled
   pub game : IsRealizabilityGame a controlled nodes
 
 -- the canonical text of that game

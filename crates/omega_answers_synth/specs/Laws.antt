@@ -1,6 +1,6 @@
 -- Laws of the answers of `realize` and of `verify --specification`: who wins the automaton of a text, which texts are
 -- called a controller or a counter-strategy, and what a letter says.
-use Rattle.std.specs.Prelude.{◌≡◌, ◌↔◌, ℕ, ◌<◌, Bool, true, List, Contains, None, codes, length}
+use Rattle.std.specs.Prelude.{◌≡◌, ◌⊎◌, ◌↔◌, ℕ, ◌<◌, Bool, true, List, Contains, None, codes, length}
 use Rattle.omega_hoa_automaton.specs.Automaton.{Description, IsAutomaton}
 use Rattle.omega_synth_controllers.specs.Controllable.{IsControlled, has_item}
 use Rattle.omega_synth_controllers.specs.Strategies.{Beats, Environment, Realizes, System}
@@ -13,6 +13,8 @@ use Rattle.omega_hoa_edges.specs.Determinism.{IsDeterministic}
 use Rattle.omega_hoa.specs.Alone.{IsAutomatonText}
 use Rattle.omega_io.specs.declared.exit.Exit.{Exit}
 use Rattle.omega_io.specs.declared.exit.Exit.TheVariants.{Done, No}
+use Rattle.omega_text.specs.declared.refusal.Refusal.TheVariants.{Game}
+use Rattle.omega_text.specs.declared.refusal.game.GameFault.{GameFault}
 use Rattle.omega_lang_lasso_word.specs.Formulas.{HasTruth, formula}
 use Rattle.omega_lang_lasso_word.specs.Laws.{HasStrings, by_number}
 use Rattle.omega_synth_game.specs.RoundsOf.{holds_in}
@@ -22,8 +24,10 @@ use Rattle.omega_text.specs.Omniscience.{LimitedPrincipleOfOmniscience}
 use Rattle.omega_io.specs.Answer.{IsYes}
 use Rattle.omega_answers_synth.specs.Counter.{IsCounterAnswer}
 use Rattle.omega_answers_synth.specs.Decide.{IsDecisionAnswer}
+use Rattle.omega_answers_synth.specs.Game.{IsGameAnswer, IsGameRefusal}
 use Rattle.omega_answers_synth.specs.Letter.{letter_text}
 use Rattle.omega_answers_synth.specs.Parting.{AreControlledAlike, AreSystemNames}
+use Rattle.omega_answers_synth.specs.Refusing.{IsRealizeRefusal}
 use Rattle.omega_answers_synth.specs.Verify.{IsControllerAnswer}
 use Rattle.omega_answers_synth.specs.Winner.{IsWinnerAnswer}
 
@@ -67,6 +71,19 @@ WinnerAnswersAreExact = LimitedPrincipleOfOmniscience → (text output : List �
     (a : Description) (controlled : List ℕ)
     → IsWinnerAnswer text exit output → IsAutomatonText text a → IsControlled a controlled
     → TellsWhoWins a controlled exit
+
+-- `realize` or `realize --game` is refused for the size of the game
+abbrev pub IsRefusedForSize : (text : List ℕ) → GameFault → Type 0
+IsRefusedForSize text fault =
+    ((budget : ℕ) × IsRealizeRefusal text budget (Game fault)) ⊎ IsGameRefusal text (Game fault)
+
+-- so nothing is written of the text, and it is refused for its size in one way
+abbrev pub SizeRefusalsExcludeAnswers : Type 0
+SizeRefusalsExcludeAnswers = (text : List ℕ) (fault : GameFault) → IsRefusedForSize text fault
+    → ((exit : Exit) (output : List ℕ) → ¬ IsDecisionAnswer text exit output)
+    × ((exit : Exit) (output : List ℕ) → ¬ IsWinnerAnswer text exit output)
+    × ((output : List ℕ) → ¬ IsGameAnswer text output)
+    × ((other : GameFault) → IsRefusedForSize text other → fault ≡ other)
 
 -- no automaton is a controller for a deterministic specification that has a counter-strategy, if the item of the
 -- specification says which propositions the system controls

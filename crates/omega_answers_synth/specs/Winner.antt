@@ -6,7 +6,7 @@ use Rattle.omega_synth_controllers.specs.Controllers.{IsController, IsCounterStr
 use Rattle.omega_io.specs.declared.exit.Exit.{Exit}
 use Rattle.omega_io.specs.declared.exit.Exit.TheVariants.{Done, No}
 use Rattle.omega_synth_game.specs.RoundsOf.{AreLeastLetters, letters_by_state}
-use Rattle.omega_synth_realize.specs.Refusing.{IsJudgeable}
+use Rattle.omega_synth_realize.specs.Refusing.{HasNoLargeGame, IsJudgeable}
 use Rattle.omega_answers.specs.OneAutomaton.{OfAutomaton}
 use Rattle.omega_synth_text.specs.Winner.{IsControllerText, IsCounterStrategyText}
 
@@ -29,12 +29,13 @@ abbrev pub IsWinner : Description → List ℕ → Exit → List ℕ → Type 0
 IsWinner a controlled Done output = IsControllerWritten a controlled output
 IsWinner a controlled No output = IsCounterStrategyWritten a controlled output
 
--- the winner's automaton for a deterministic parity automaton, where the system controls the propositions that its item
--- `controllable-AP:` lists
+-- the winner's automaton for a deterministic parity automaton whose game is not too large, where the system controls
+-- the propositions that its item `controllable-AP:` lists
 pub record IsWinning (a : Description) (exit : Exit) (output : List ℕ) : Type 0 where
   pub controlled : List ℕ
   pub stated : IsStated a controlled
   pub judgeable : IsJudgeable a
+  pub small : HasNoLargeGame a controlled
   pub winner : IsWinner a controlled exit output
 
 -- the answer of `realize --controller`: the winner's automaton for the automaton of the text

@@ -1,11 +1,12 @@
 //! Whether an automaton is realizable, in one line.
 
-ghost use Rattle.std.specs.Prelude.{◌≤◌, IfErr, IfOk, IsOkUnless};
+ghost use Rattle.std.specs.Prelude.{◌≡◌, ◌≤◌, IfErr, IfOk, IsOkUnless};
 ghost use Rattle.omega_solve.specs.budget.Observing.{IsObserved, refusal_in};
 ghost use Rattle.omega_solve.specs.Limits.{most_lifts};
 ghost use Rattle.omega_text.specs.Cases.{or_memory};
 ghost use Rattle.omega_answers_synth.specs.Decide.{IsDecision, IsDecisionAnswer};
-ghost use Rattle.omega_answers_synth.specs.Observing.{LiftsText};
+ghost use Rattle.omega_answers_synth.specs.Observing.{IsLiftedDecisionAnswer, LiftsText, winner_told};
+ghost use Rattle.omega_synth_realize.specs.Realizing.{winner_in};
 ghost use Rattle.omega_answers_synth.specs.Refusing.{IsRealizeRefusal};
 ghost use Rattle.omega_answers_synth.specs.private.Decided.{IsDecidedRightly};
 
@@ -29,7 +30,8 @@ pub fn decide_realizability(alloc: Global, text: &[u8]) -> Result<(Exit, Vec<u8>
     verdict_of(alloc, &decided)
 }
 
-/// Decides as [decide_realizability] does, by lifting within `budget`. The runs are reported to `observer`.
+/// Decides as [decide_realizability] does, by lifting within `budget`, which ends where there is an answer. The runs
+/// are reported to `observer`.
 ///
 /// Fails with the [Refusal::Text] or [Refusal::Automaton] of the text, or else with [TaskFault::Controllable], or else
 /// as `realize_by_lifting` does.
@@ -41,7 +43,8 @@ pub fn decide_realizability_by_lifting<L, W: Reporter<L>>(
     observer: &mut L,
 ) -> Result<(Exit, Vec<u8>), Refusal>
     requires { budget ≤ most_lifts }
-    ensures answer { IfOk result (λ made. IsDecisionAnswer text.now made.0 made.1.items) }
+    ensures answer { IfOk result
+        (λ made. IsLiftedDecisionAnswer text.now budget made.0 made.1.items) }
     ensures refused { IfErr result (or_memory (IsRealizeRefusal text.now budget)) }
     ensures reported { IsObserved (LiftsText text.now) (refusal_in result)
         (W.tells reporter.now) (W.pace reporter.now) budget observer.old observer.new }
@@ -55,6 +58,7 @@ fn verdict_of(alloc: Global, decided: &Decided) -> Result<(Exit, Vec<u8>), Refus
     requires { IsDecidedRightly decided.now }
     ensures decision { IfOk result
         (λ made. IsDecision decided.now.question.automaton made.0 made.1.items) }
+    ensures told { IfOk result (λ made. winner_told made.0 ≡ winner_in decided.now.realizability) }
     ensures memory { IsOkUnless result Refusal.Memory }
 {
     match &decided.realizability {

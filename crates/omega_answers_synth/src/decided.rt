@@ -3,6 +3,7 @@
 ghost use Rattle.std.specs.Prelude.{◌≤◌, IfErr, IfOk};
 ghost use Rattle.omega_solve.specs.budget.Observing.{IsObserved, refusal_in};
 ghost use Rattle.omega_solve.specs.Limits.{most_lifts};
+ghost use Rattle.omega_synth_realize.specs.Lifting.{IsAnswerLifted};
 ghost use Rattle.omega_text.specs.Cases.{or_memory};
 ghost use Rattle.omega_answers_synth.specs.Observing.{LiftsText};
 ghost use Rattle.omega_answers_synth.specs.Refusing.{IsRealizeRefusal};
@@ -46,6 +47,8 @@ pub(crate) fn decided_by_lifting<L, W: Reporter<L>>(
 ) -> Result<Decided, Refusal>
     requires { budget ≤ most_lifts }
     ensures decided { IfOk result (IsDecidedText text.now) }
+    ensures lifted { IfOk result (λ found. IsAnswerLifted found.question.automaton
+        found.question.controlled budget found.realizability) }
     ensures refused { IfErr result (or_memory (IsRealizeRefusal text.now budget)) }
     ensures reported { IsObserved (LiftsText text.now) (refusal_in result)
         (W.tells reporter.now) (W.pace reporter.now) budget observer.old observer.new }

@@ -5,10 +5,11 @@ ghost use Rattle.omega_answers_synth.specs.FormulaLaws.{WrittenControllersAreJud
 ghost use Rattle.omega_answers_synth.specs.Laws.{ControllerAnswersAreExact, LettersAreTrueWhereGiven};
 ghost use Rattle.omega_answers_synth.specs.Laws.{ControllersExcludeStrategies, ControllersForExcludeCounterStrategies};
 ghost use Rattle.omega_answers_synth.specs.Laws.{CounterAnswersAreExact, YesExcludesYes};
-ghost use Rattle.omega_answers_synth.specs.Laws.{RealizeAnswersAreExact, WinnerAnswersAreExact};
+ghost use Rattle.omega_answers_synth.specs.Laws.{RealizeAnswersAreExact, SizeRefusalsExcludeAnswers};
+ghost use Rattle.omega_answers_synth.specs.Laws.{WinnerAnswersAreExact};
 ghost use Rattle.omega_answers_synth.specs.Laws.{WrittenControllersAreParts, YesExcludesUnrealizable};
 
-use omega_hoa::automata_are_one;
+use omega_hoa::{automata_are_one, automata_are_unrefused, refusals_are_one};
 use omega_hoa_automaton::meanings_are_automata;
 use omega_ltl_text::laws::formulas_of_texts_are_one;
 use omega_synth_check::{
@@ -22,6 +23,7 @@ use omega_synth_formula::{
     formula_controllers_exclude_counter_strategies, formula_counter_judgements_are_exact,
     formula_judgements_are_exact,
 };
+use omega_synth_realize::large_games_are_not_decided;
 
 /// States that `verify_controller` returns `yes` exactly if the one text is that of a controller for the specification
 /// of the other, with the premise of `judgements_are_exact`.
@@ -54,6 +56,17 @@ pub fn winner_answers_are_exact()
     controllers_realize();
     counter_strategies_beat();
     beating_excludes_realizing();
+}
+
+/// States that `decide_realizability`, `write_winner` and `write_realizability_game` answer no text that one of them
+/// refuses for the size of its game, and that they refuse it so with one refusal.
+pub fn size_refusals_exclude_answers()
+    ensures { SizeRefusalsExcludeAnswers }
+{
+    automata_are_one();
+    automata_are_unrefused();
+    refusals_are_one();
+    large_games_are_not_decided();
 }
 
 /// States that no automaton is a controller for a deterministic specification that has a counter-strategy, if the

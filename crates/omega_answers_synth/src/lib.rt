@@ -30,8 +30,6 @@ mod own_faults;
 mod parting;
 mod question;
 mod reason;
-#[cfg(test)]
-mod tests;
 mod verify;
 mod winner;
 
@@ -45,11 +43,12 @@ pub use formula_winner::write_formula_winner;
 pub use game::write_realizability_game;
 pub use given_names::GivenNames;
 pub use laws::{
-    controller_answers_are_exact, controllers_for_exclude_counter_strategies,
-    formula_answers_are_one, formula_refusals_are_no_failures, letters_are_true_where_given,
-    realize_answers_are_exact, winner_answers_are_exact, written_controllers_are_parts,
+    controller_answers_are_exact, controllers_exclude_strategies,
+    controllers_for_exclude_counter_strategies, counter_answers_are_exact, formula_answers_are_one,
+    formula_refusals_are_no_failures, letters_are_true_where_given, realize_answers_are_exact,
+    size_refusals_exclude_answers, winner_answers_are_exact, written_controllers_are_parts,
     written_formula_controllers_are_judged, written_formula_counter_strategies_are_judged,
-    yes_excludes_unrealizable,
+    yes_excludes_unrealizable, yes_excludes_yes,
 };
 pub use omega_answers::Exit;
 pub use outputs::outputs_of;

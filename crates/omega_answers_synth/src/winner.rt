@@ -5,9 +5,9 @@ ghost use Rattle.omega_hoa_automaton.specs.Branching.{has_universal_branching};
 ghost use Rattle.omega_solve.specs.budget.Observing.{IsObserved, refusal_in};
 ghost use Rattle.omega_solve.specs.Limits.{most_lifts};
 ghost use Rattle.omega_text.specs.Cases.{or_memory};
-ghost use Rattle.omega_answers_synth.specs.Observing.{LiftsText};
+ghost use Rattle.omega_answers_synth.specs.Observing.{IsLiftedWinnerAnswer, LiftsText, winner_told};
 ghost use Rattle.omega_answers_synth.specs.Refusing.{IsRealizeRefusal};
-ghost use Rattle.omega_synth_realize.specs.Realizing.{IsRealizability};
+ghost use Rattle.omega_synth_realize.specs.Realizing.{IsRealizability, winner_in};
 ghost use Rattle.omega_answers_synth.specs.Winner.{IsWinner, IsWinnerAnswer, IsWinning};
 ghost use Rattle.omega_answers_synth.specs.private.Decided.{IsDecidedRightly};
 
@@ -39,7 +39,8 @@ pub fn write_winner_by_lifting<L, W: Reporter<L>>(
     observer: &mut L,
 ) -> Result<(Exit, Vec<u8>), Refusal>
     requires { budget ≤ most_lifts }
-    ensures answer { IfOk result (λ made. IsWinnerAnswer text.now made.0 made.1.items) }
+    ensures answer { IfOk result
+        (λ made. IsLiftedWinnerAnswer text.now budget made.0 made.1.items) }
     ensures refused { IfErr result (or_memory (IsRealizeRefusal text.now budget)) }
     ensures reported { IsObserved (LiftsText text.now) (refusal_in result)
         (W.tells reporter.now) (W.pace reporter.now) budget observer.old observer.new }
@@ -53,6 +54,7 @@ fn winner_of(alloc: Global, decided: &Decided) -> Result<(Exit, Vec<u8>), Refusa
     requires { IsDecidedRightly decided.now }
     ensures winning { IfOk result
         (λ made. IsWinning decided.now.question.automaton made.0 made.1.items) }
+    ensures told { IfOk result (λ made. winner_told made.0 ≡ winner_in decided.now.realizability) }
     ensures memory { IsOkUnless result Refusal.Memory }
 {
     winner_text(
@@ -74,6 +76,7 @@ pub(crate) fn winner_text(
     requires plain { has_universal_branching automaton.now ≡ false }
     requires right { IsRealizability automaton.now controlled.now found.now }
     ensures winner { IfOk result (λ made. IsWinner automaton.now controlled.now made.0 made.1.items) }
+    ensures told { IfOk result (λ made. winner_told made.0 ≡ winner_in found.now) }
     ensures memory { IsOkUnless result Refusal.Memory }
 {
     match found {

@@ -34,3 +34,4 @@ pub mod Judged
 pub mod Plain
 pub mod Refused
 pub mod Ending
+mod CircuitsRefused

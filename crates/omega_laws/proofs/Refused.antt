@@ -37,10 +37,10 @@ use Rattle.omega_laws.proofs.Plain.{complement_plain, controller_plain}
 use Rattle.omega_laws.proofs.RealizedWritten as written
 
 -- a refusal is none of those that are about a text
-record IsOfNeither (refusal : Refusal) : Type 0 where
-  no_choice : (state : ℕ) → ¬ (refusal ≡ Task (NotDeterministic state))
-  no_kind : ¬ (refusal ≡ Task NotParity)
-  no_branch : ¬ (refusal ≡ Task UniversalBranch)
+pub record IsOfNeither (refusal : Refusal) : Type 0 where
+  pub no_choice : (state : ℕ) → ¬ (refusal ≡ Task (NotDeterministic state))
+  pub no_kind : ¬ (refusal ≡ Task NotParity)
+  pub no_branch : ¬ (refusal ≡ Task UniversalBranch)
 
 about_none : (controller : Description) (refusal : Refusal) → IsOfNeither refusal → text_about controller refusal ≡ None
 about_none controller (Task NotParity) is = absurd (is.no_kind refl)
@@ -82,8 +82,8 @@ letter_limit : (controller : Description) (controlled : List ℕ) (fault : TaskF
 letter_limit controller controlled fault (judge.many_states many) = inl refl
 letter_limit controller controlled fault (judge.hard_label hard) = inr refl
 letter_limit controller controlled fault (judge.not_asked other state numbers met leave (inl many)) = inr many.0
-letter_limit controller controlled fault (judge.not_asked other state numbers met leave (inr (letter, number, has, edge, at, inl large))) = inl large.0
-letter_limit controller controlled fault (judge.not_asked other state numbers met leave (inr (letter, number, has, edge, at, inr hard))) = inr hard.0
+letter_limit controller controlled fault (judge.not_asked other state numbers met leave (inr (few, (letter, number, has, edge, at, inl large)))) = inl large.0
+letter_limit controller controlled fault (judge.not_asked other state numbers met leave (inr (few, (letter, number, has, edge, at, inr hard)))) = inr hard.0
 
 letters_of_neither : (controller : Description) (controlled : List ℕ) (refusal : Refusal) → IsLetterRefusal controller controlled refusal → IsOfNeither refusal
 letters_of_neither controller controlled refusal is = record {
@@ -124,7 +124,7 @@ memory_of_neither refusal is = record {
   no_branch = λ e. subst IsMemory e is;
 }
 
-contained_of_neither : (one other : Description) → has_universal_branching one ≡ false → IsDeterministic other → (refusal : Refusal) → IsContainmentRefusal one other refusal
+pub contained_of_neither : (one other : Description) → has_universal_branching one ≡ false → IsDeterministic other → (refusal : Refusal) → IsContainmentRefusal one other refusal
     → IsOfNeither refusal
 contained_of_neither one other plain deterministic refusal (not_complemented is) = complement_of_neither other deterministic refusal is
 contained_of_neither one other plain deterministic refusal (not_met complement given complemented is) =

@@ -18,3 +18,4 @@ pub mod ControllerTexts
 pub mod FormulaTexts
 pub mod LiftedAnswers
 pub mod WrittenControllers
+pub mod WrittenCircuits

@@ -10,7 +10,8 @@
 //! Laws of `satisfies`: what its answers say of the words that a text accepts or admits. No code that runs.
 //!
 //! Laws of `realize`: that the text of a controller is read back, that `verify --specification` judges it right, and
-//! that answers by lifting are given within the budget. No code that runs.
+//! that answers by lifting are given within the budget; and that no refusal of `verify --specification` is about a
+//! circuit that `realize --aiger` writes. No code that runs.
 #![tactic(auto)]
 
 mod complement_texts;
@@ -23,6 +24,7 @@ mod product_texts;
 mod trimming;
 mod trims;
 mod unions;
+mod written_circuits;
 mod written_controllers;
 mod written_texts;
 mod written_words;
@@ -47,6 +49,7 @@ pub use trims::{trimmed_texts_accept_the_same, trims_accept_the_same, trims_are_
 pub use unions::{
     joined_texts_accept_either, unions_accept_either, unions_accept_either_by_name, unions_are_one,
 };
+pub use written_circuits::written_circuits_are_not_at_fault;
 pub use written_controllers::{
     written_controllers_are_judged_right, written_controllers_are_not_at_fault,
 };

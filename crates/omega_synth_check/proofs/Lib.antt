@@ -6,6 +6,7 @@ pub mod Reached
 pub mod Steps
 pub mod Refusals
 pub mod Visits
+pub mod GivenInputs
 pub mod Judgements
 pub mod KeptParts
 pub mod Searches

@@ -7,7 +7,7 @@ use Rattle.omega_synth_controllers.specs.Controllers.{Answers}
 use Rattle.omega_synth_game.proofs.Those.{those_members}
 use Rattle.omega_synth_game.specs.Making.{AreQuestionsOf, HaveFewInputs}
 use Rattle.omega_synth_game.specs.RoundsOf.{holds_in, letter_of}
-use Rattle.omega_synth_check.specs.Judging.{IsAnswered}
+use Rattle.omega_synth_check.specs.Judging.{AreInputs, IsAnswered}
 use Rattle.omega_synth_check.specs.private.Leaving.{AreLeavers}
 use Rattle.omega_synth_check.specs.Lacks.{AnswersEach}
 use Rattle.omega_synth_check.specs.private.Searching.{IsVisited, NoneAnswers, SomeAnswers}
@@ -47,6 +47,7 @@ module _ (a : Description) (automaton : IsAutomaton a) (plain : has_universal_br
 
   pub visited : (found : Option (List ℕ)) → HaveFewInputs a controlled numbers
       → ((letter : List ℕ) → found ≡ Some letter → NoneAnswers a controlled numbers letter)
+      → ((letter : List ℕ) → found ≡ Some letter → AreInputs a controlled letter)
       → (found ≡ None → (given : ℕ → Bool) → SomeAnswers a controlled numbers given) → IsVisited a controlled state found
-  visited None few unanswered answered = (answers_each (answered refl), record { numbers = numbers; leave = leavers; few = few })
-  visited (Some letter) few unanswered answered = lacks letter (unanswered letter refl)
+  visited None few unanswered inputs answered = (answers_each (answered refl), record { numbers = numbers; leave = leavers; few = few })
+  visited (Some letter) few unanswered inputs answered = (lacks letter (unanswered letter refl), inputs letter refl)

@@ -1,6 +1,6 @@
 -- Controllers for a specification: automata that are judged for themselves, whoever made them. The system controls some
 -- of their propositions, and the environment all others.
-use Rattle.std.specs.Prelude.{ℕ, Bool, List}
+use Rattle.std.specs.Prelude.{ℕ, ◌<◌, Bool, List, Contains, length}
 use Rattle.omega_hoa_automaton.specs.Automaton.{Description}
 use Rattle.omega_lang_runs.specs.Lasso.{IsStart, IsStep, Leads}
 use Rattle.omega_synth_controllers.specs.Controllers.{Answers}
@@ -39,11 +39,17 @@ pub record IsControllerFor (specification controller : Description)
   pub answers : AnswersAll controller controlled
   pub accepted : AcceptsAllOf controller specification
 
+-- a letter lists propositions of the environment alone
+abbrev pub AreInputs : Description → List ℕ → List ℕ → Type 0
+AreInputs a controlled letter = (p : ℕ) → Contains letter p
+    → (p < length a.propositions) × ¬ Contains controlled p
+
 -- the stem leads from a start to the state, which does not answer the letter
 pub record IsLack (controller : Description) (controlled : List ℕ) (lack : Lack) : Type 0 where
   pub start : ℕ
   pub begins : IsStart controller start
   pub leads : Leads controller start lack.stem lack.state
+  pub inputs : AreInputs controller controlled lack.letter
   pub unanswered : ¬ IsAnswered controller controlled lack.state (holds_in lack.letter)
 
 -- a judgement is right. `Controls`: a controller for the specification, where what is said of the words that it accepts

@@ -17,7 +17,7 @@ pub enum CounterJudgement {
 /// A state of a counter-strategy and one of its specification, to which both come by the same letters. Whatever letter
 /// the environment gives, the system has an answer at which the specification goes on and the counter-strategy does
 /// not.
-#[derive(Debug, Drop, PartialEq, Eq)]
+#[derive(Debug, PartialEq, Eq)]
 pub struct LetterlessPair {
     /// The number of the state of the counter-strategy.
     pub state: u32,
@@ -25,4 +25,14 @@ pub struct LetterlessPair {
     pub against: u32,
     /// The numbers of edges of the specification that lead from a start to its state, in order.
     pub stem: Seq<u32>,
+}
+
+impl Drop for LetterlessPair {
+    fn drop(self) {
+        let LetterlessPair {
+            state: _,
+            against: _,
+            stem: _,
+        } = self;
+    }
 }

@@ -4,6 +4,7 @@ ghost use Rattle.std.specs.Prelude.{◌≡◌, ◌<◌, [], ℕ, Bool, All, IfEr
 ghost use Rattle.std.specs.Prelude.{IfOk, IfSome, OnOk, length, slice_index_or};
 ghost use Rattle.omega_lang_runs.specs.Places.{ArePlaces};
 ghost use Rattle.omega_synth_game.specs.Making.{HaveFewInputs, IsQuestionsOfRefusal};
+ghost use Rattle.omega_synth_check.specs.Judging.{AreInputs};
 ghost use Rattle.omega_synth_check.specs.private.Searching.{NoneAnswers, SomeAnswers};
 
 use omega_hoa_automaton::{Automaton, Refusal};
@@ -12,8 +13,9 @@ use omega_synth_game::questions_of;
 use omega_text::Numbers;
 use std::alloc::Global;
 
-/// Returns a letter of the environment that none of the edges with these `numbers` answers, by the propositions that
-/// hold; none if each letter has an answer. Reads the `places` of all edges. Fails as `questions_of` does.
+/// Returns a letter of the environment that none of the edges with these `numbers` answers, by those of its
+/// propositions that hold; none if each letter has an answer. Reads the `places` of all edges. Fails as `questions_of`
+/// does.
 pub(crate) fn unanswered_letter(
     alloc: Global,
     automaton: &Automaton,
@@ -25,11 +27,13 @@ pub(crate) fn unanswered_letter(
     requires numbers { All (λ number. number < length places.now) numbers.now }
     ensures unanswered { IfOk result
         (λ found. IfSome found (λ letter. NoneAnswers automaton.now controlled.now numbers.now letter)) }
+    ensures inputs { IfOk result (λ found. IfSome found (AreInputs automaton.now controlled.now)) }
     ensures answered { IfOk result (λ found. IfNone found
         ((given : ℕ → Bool) → SomeAnswers automaton.now controlled.now numbers.now given)) }
     ensures few { OnOk result (HaveFewInputs automaton.now controlled.now numbers.now) }
     ensures refused { IfErr result (IsQuestionsOfRefusal automaton.now controlled.now numbers.now) }
 {
+    automaton.keeps_limits();
     let questions = questions_of(alloc, automaton, places, numbers, controlled)?;
     match first_empty(questions.answers.as_slice()) {
         None => Ok(None),

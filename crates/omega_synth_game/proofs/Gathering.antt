@@ -1,7 +1,5 @@
 -- The questions of one state more.
 use Rattle.std.proofs.Common.{◌≡◌, ℕ, zero, suc, ◌+◌, ◌-◌, ◌<◌, ◌≤◌, inl, inr, Bool, false, All, List, [], ◌∷◌, ◌++◌, length, get_or, sym, ap, refl, ◌∙◌, subst, arith, length-append}
-use Rattle.std.specs.Prelude.{sum_by}
-use Rattle.std.specs.List.{flat_map}
 use Rattle.std.specs.List.Sorted.{IsStrictlyIncreasing}
 use Rattle.std.proofs.Math.Seq.{get_or-append_seam}
 use Rattle.std.proofs.lemmas.Bool.{cases_eq, cases_lt}
@@ -307,6 +305,7 @@ state_unmade a controlled leaving states ranges answers numbers e leave within a
     go : (e : Refusal) → IsQuestionsOfRefusal a controlled numbers e → IsRoundsOfRefusal a controlled e
     go (Task fault) asking = record {
       before = are.classes;
+      below = omega (arith, are.entries, within, leave.0);
       each = classes_of a controlled leaving states ranges answers leave (omega (arith, within)) are;
       fit = omega (arith, few, counted a controlled leaving states ranges answers are);
       numbers = numbers;

@@ -20,3 +20,6 @@ pub mod ExclusiveStates
 pub mod Gathering
 pub mod Rounding
 pub mod Existing
+pub mod Within
+pub mod SameClasses
+pub mod SameSizes

@@ -94,3 +94,27 @@ those_rising P (x ∷ xs) ys rising are = elim are [
       (those_rising P xs here.0 (tail_rising x xs rising) here.3))
   | inr there ↦ those_rising P xs ys (tail_rising x xs rising) there.1
 ]
+
+-- rising lists with the same members are one
+first_same : (x y : ℕ) (xs ys : List ℕ) → IsStrictlyIncreasing (x ∷ xs) → IsStrictlyIncreasing (y ∷ ys) → Contains (y ∷ ys) x → Contains (x ∷ xs) y → x ≡ y
+first_same x y xs ys rising other there back =
+    first_or x y (y ∷ ys) ys (x ≡ y) refl sym
+    (λ later. first_or y x (x ∷ xs) xs (x ≡ y) refl (λ same. same)
+    (λ its. absurd (omega (arith, head_below y ys x other later, head_below x xs y rising its))) back)
+    there
+
+rest_within : (x : ℕ) (xs ys : List ℕ) (n : ℕ) → IsStrictlyIncreasing (x ∷ xs) → Contains xs n → Contains (x ∷ ys) n → Contains ys n
+rest_within x xs ys n rising has there =
+    first_or n x (x ∷ ys) ys (Contains ys n) refl (λ same. absurd (omega (arith, head_below x xs n rising has, same))) (λ later. later) there
+
+pub rising_one : (xs ys : List ℕ) → IsStrictlyIncreasing xs → IsStrictlyIncreasing ys → ((n : ℕ) → Contains xs n ↔ Contains ys n) → xs ≡ ys
+rising_one [] [] rising other same = refl
+rising_one [] (y ∷ ys) rising other same = absurd (none y [] refl ((same y).1 (in_front y ys)))
+rising_one (x ∷ xs) [] rising other same = absurd (none x [] refl ((same x).0 (in_front x xs)))
+rising_one (x ∷ xs) (y ∷ ys) rising other same =
+    let first : x ≡ y = first_same x y xs ys rising other ((same x).0 (in_front x xs)) ((same y).1 (in_front y ys)) in
+    let rest : xs ≡ ys = rising_one xs ys (tail_rising x xs rising) (tail_rising y ys other) (λ n. (
+      λ has. rest_within x xs ys n rising has (subst (λ (m : ℕ). Contains (m ∷ ys) n) (sym first) ((same n).0 (behind x n xs has))),
+      λ has. rest_within y ys xs n other has (subst (λ (m : ℕ). Contains (m ∷ xs) n) first ((same n).1 (behind y n ys has))),
+    )) in
+    cc

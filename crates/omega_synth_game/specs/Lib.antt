@@ -9,5 +9,6 @@ pub mod Classes
 pub mod RoundsOf
 pub mod Laws
 pub mod Making
+pub mod SizeLaws
 pub mod Sizes
 pub mod private

@@ -67,12 +67,12 @@ IsSomeUnjudged a controlled numbers fault = (letter : List ℕ) × (number : ℕ
     × Contains numbers number × (edge : BodyEdge) × (edge_at a number ≡ Some edge)
     × IsLetterLabelFault controlled letter (whole_label a number edge) fault
 
--- the fault of the questions of a state that the edges with these numbers leave: too many inputs, or an edge that
+-- the fault of the questions of a state that the edges with these numbers leave: too many inputs, or else an edge that
 -- cannot be judged in some letter
 abbrev pub IsAskingFault : Description → List ℕ → List ℕ → TaskFault → Type 0
 IsAskingFault a controlled numbers fault =
     ((fault ≡ TooManyPropositions) × (most_mentioned < length (mentioned_inputs a controlled numbers)))
-    ⊎ IsSomeUnjudged a controlled numbers fault
+    ⊎ (HaveFewInputs a controlled numbers × IsSomeUnjudged a controlled numbers fault)
 
 -- the refusal of the questions of a state
 abbrev pub IsQuestionsOfRefusal : Description → List ℕ → List ℕ → Refusal → Type 0
@@ -112,6 +112,7 @@ pub record AreAskedByState (a : Description) (controlled : List ℕ) (rounds : R
 -- the fault of the questions of a state: all states before it have classes, which are not too many
 pub record IsMakingFault (a : Description) (controlled : List ℕ) (fault : TaskFault) : Type 0 where
   pub before : List (List (List ℕ))
+  pub below : length before < a.states
   pub each : AreClassesOf a controlled before
   pub fit : class_count before ≤ most_nodes
   pub numbers : List ℕ

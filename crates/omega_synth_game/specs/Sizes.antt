@@ -1,5 +1,5 @@
 -- How large the game of an automaton is, by its states, its edges, and the classes of letters in each state.
-use Rattle.std.specs.Prelude.{◌≡◌, ℕ, ◌+◌, ◌<◌, ◌≤◌, List, length, sum_by}
+use Rattle.std.specs.Prelude.{◌≡◌, ◌⊎◌, ℕ, ◌+◌, ◌<◌, ◌≤◌, List, length, sum_by}
 use Rattle.omega_text.specs.declared.refusal.game.GameFault.{GameFault}
 use Rattle.omega_text.specs.declared.refusal.game.GameFault.TheVariants.{DuplicateNode, HeaderTooSmall}
 use Rattle.omega_text.specs.declared.refusal.game.GameFault.TheVariants.{TooManyEdges, TooManyNodes}
@@ -7,7 +7,7 @@ use Rattle.omega_text.specs.declared.refusal.game.GameFault.TheVariants.{Undefin
 use Rattle.omega_hoa_automaton.specs.Automaton.{Description, edge_count}
 use Rattle.omega_game_values.specs.Limits.{most_nodes, most_successors}
 use Rattle.omega_synth_rounds.specs.RoundsGame.{answer_count}
-use Rattle.omega_synth_game.specs.Making.{AreClassesOf, class_count}
+use Rattle.omega_synth_game.specs.Making.{AreClassesOf, HasManyQuestions, class_count}
 
 -- the nodes of the game: the states, the edges, the sink and the classes
 abbrev pub node_total : Description → List (List (List ℕ)) → ℕ
@@ -19,12 +19,16 @@ abbrev pub edge_total : Description → List (List (List ℕ)) → ℕ
 edge_total a classes =
     class_count classes + edge_count a + 1 + sum_by (λ here. sum_by answer_count here) classes
 
--- the game has more nodes than a game may have, by the classes of the first states already
-pub record HasManyNodes (a : Description) (controlled : List ℕ) : Type 0 where
+-- the game of all states has more nodes than a game may have
+pub record IsGameLong (a : Description) (controlled : List ℕ) : Type 0 where
   pub classes : List (List (List ℕ))
-  pub few : length classes ≤ a.states
+  pub all : length classes ≡ a.states
   pub each : AreClassesOf a controlled classes
   pub many : most_nodes < node_total a classes
+
+-- the game has more nodes than a game may have, or the first states have as many classes already
+abbrev pub HasManyNodes : Description → List ℕ → Type 0
+HasManyNodes a controlled = HasManyQuestions a controlled ⊎ IsGameLong a controlled
 
 -- the game has no more nodes, and more edges than a game may have
 pub record HasManyEdges (a : Description) (controlled : List ℕ) : Type 0 where

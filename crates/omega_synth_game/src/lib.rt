@@ -22,8 +22,9 @@ mod states;
 
 pub use exclusive::are_seen_apart;
 pub use laws::{
-    answerings_are_controllers, askings_are_counter_strategies, met_answers_are_met,
-    no_start_is_refused,
+    answerings_are_controllers, askings_are_counter_strategies, game_sizes_are_one,
+    large_games_are_not_small, large_games_mention_few, met_answers_are_met, no_start_is_refused,
+    size_faults_are_one,
 };
 pub use making::{LetteredRounds, rounds_of};
 pub use questions::{Questions, questions_of};

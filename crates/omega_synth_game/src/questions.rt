@@ -24,12 +24,21 @@ use omega_text::Numbers;
 use std::alloc::Global;
 
 /// Questions: a letter of each, by the propositions that hold, and the numbers of the edges that answer it.
-#[derive(Debug, Drop)]
+#[derive(Debug)]
 pub struct Questions {
     /// The letters.
     pub letters: Vec<Numbers>,
     /// For each letter the edges that answer it.
     pub answers: Vec<Numbers>,
+}
+
+impl Drop for Questions {
+    fn drop(self) {
+        let Questions {
+            letters: _,
+            answers: _,
+        } = self;
+    }
 }
 
 /// Returns the questions of a state that the edges with these `numbers` leave: one for each class of letters that the

@@ -171,7 +171,7 @@ module _ (a : Description) (controlled : List ℕ) where
   making_spares : (fault : TaskFault) → IsMakingFault a controlled fault → fault ≡ Budget → ⊥
   making_spares fault making e = elim making.asking [
     | inl wide ↦ (let is = wide.0 in cc)
-    | inr some ↦ elim some.5 [
+    | inr some ↦ elim some.1.5 [
       | inl deep ↦ (let is = deep.0 in cc)
       | inr hard ↦ (let is = hard.0 in cc)
     ]

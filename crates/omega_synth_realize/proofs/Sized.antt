@@ -1,5 +1,5 @@
 -- The sizes of the game of the rounds of an automaton are those by the classes of letters in its states.
-use Rattle.std.proofs.Common.{◌≡◌, ℕ, ◌+◌, ◌-◌, ◌<◌, inr, List, [], ◌∷◌, ◌++◌, length, Result, Ok, Err, ap, refl, ◌∙◌, arith}
+use Rattle.std.proofs.Common.{◌≡◌, ℕ, ◌+◌, ◌-◌, ◌<◌, inl, inr, List, [], ◌∷◌, ◌++◌, length, Result, Ok, Err, ap, refl, ◌∙◌, arith}
 use Rattle.std.specs.Prelude.{OnOk, sum_by}
 use Rattle.std.specs.List.{flat_map}
 use Rattle.std.proofs.lemmas.List.Concat.{length-flat_map}
@@ -15,7 +15,9 @@ use Rattle.omega_synth_rounds.specs.declared.rounds.Rounds.{Rounds}
 use Rattle.omega_synth_rounds.proofs.Successors.{listed_by_parts, range_count}
 use Rattle.omega_synth_game.specs.Laws.{IsParted}
 use Rattle.omega_synth_game.specs.Making.{HasManyQuestions, class_count, ranges_from}
+use Rattle.omega_synth_game.specs.SizeLaws.{LargeGamesAreNotSmall, SizeFaultsAreOne}
 use Rattle.omega_synth_game.specs.Sizes.{HasManyNodes, IsGameSmall, edge_total, node_total}
+use Rattle.omega_synth_realize.specs.Laws.{LargeGamesAreNotDecided}
 use Rattle.omega_synth_realize.specs.Refusing.{HasNoLargeGame, IsJudgeable, IsLargeFault, IsPosed}
 
 -- the ranges of classes have as many questions as there are classes
@@ -46,12 +48,7 @@ answers_sum (here ∷ rest) =
 
 -- too many questions are too many nodes
 pub many_nodes : (a : Description) (controlled : List ℕ) → HasManyQuestions a controlled → HasManyNodes a controlled
-many_nodes a controlled many = record {
-  classes = many.classes;
-  few = many.few;
-  each = many.each;
-  many = omega (arith, many.many);
-}
+many_nodes a controlled many = inl many
 
 -- what follows where there is an answer
 pub on_ok_weaker : {X : Type 0} (r : Result X Refusal) (P Q : Type 0) → (P → Q) → OnOk r P → OnOk r Q
@@ -88,12 +85,12 @@ module _ (a : Description) (controlled : List ℕ) (rounds : Rounds) (letters : 
   pub large : IsJudgeable a → (fault : GameFault) → IsRoundsFault rounds fault → IsLargeFault a controlled fault
   large judgeable TooManyNodes many = (
     posed judgeable,
-    record {
+    inr (record {
       classes = classes;
-      few = omega (arith, parted.by_state.all);
+      all = parted.by_state.all;
       each = parted.by_state.each;
       many = omega (arith, many, nodes_are);
-    },
+    }),
   )
   large judgeable TooManyEdges many = (
     posed judgeable,
@@ -118,3 +115,14 @@ module _ (a : Description) (controlled : List ℕ) (rounds : Rounds) (letters : 
     nodes = omega (arith, fits.nodes, nodes_are);
     edges = omega (arith, fits.successors, edges_are);
   }
+
+-- so a game that is too large is neither answered nor lifted
+pub large_alone : LargeGamesAreNotSmall → SizeFaultsAreOne → LargeGamesAreNotDecided
+large_alone not_small one a controlled fault large = record {
+  unanswered = λ answered. elim answered [
+    | inl none ↦ (let begins = large.0.begins.1 in omega (arith, begins.1, ap length none))
+    | inr is_small ↦ not_small a controlled fault large.1 is_small
+  ];
+  unlifted = λ budget lifting is. not_small a controlled fault large.1 (small a controlled is.rounds is.letters is.start is.parted is.is.fits);
+  only = λ other is. one a controlled fault other large.1 is.1;
+}

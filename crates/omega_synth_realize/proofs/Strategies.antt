@@ -24,7 +24,7 @@ use Rattle.omega_solve.specs.declared.budget.found.Found.{Found}
 use Rattle.omega_solve.specs.declared.budget.observing.Progress.{Progress}
 use Rattle.omega_solve.proofs.within_budget.Observed.{made_refused}
 use Rattle.omega_synth_rounds.specs.Extracting.{IsWinningFrom}
-use Rattle.omega_synth_rounds.specs.RoundsGame.{IsRoundsGame, node_count, node_for, table}
+use Rattle.omega_synth_rounds.specs.RoundsGame.{FitsAGame, IsRoundsGame, node_count, node_for, table}
 use Rattle.omega_synth_rounds.specs.declared.rounds.Rounds.{Rounds}
 use Rattle.omega_solve.specs.Turns.{IsNarrow}
 use Rattle.omega_synth_realize.specs.Solving.{AreLifted, IsLiftingFault, IsLiftingRefusal, IsBudgetShort, IsOutcomeRefusal, IsWidthRefusal}
@@ -76,28 +76,28 @@ player_refused Memory game player start budget narrow spent refused = refused
 player_refused Io game player start budget narrow spent refused = absurd refused
 
 -- and of the rounds
-pub lifting_refused : (r : Result Outcome Refusal) (rounds : Rounds) (game : List Node) (start budget : ℕ) → IsRoundsGame rounds game
+pub lifting_refused : (r : Result Outcome Refusal) (rounds : Rounds) (game : List Node) (start budget : ℕ) → FitsAGame rounds → IsRoundsGame rounds game
     → IfErr r (IsLiftingRefusal game start budget) → IfErr r (IsOutcomeRefusal rounds start budget)
-lifting_refused (Ok found) rounds game start budget made refused = tt
-lifting_refused (Err (Text fault)) rounds game start budget made refused = absurd refused
-lifting_refused (Err (Game fault)) rounds game start budget made refused = absurd refused
-lifting_refused (Err (Circuit fault)) rounds game start budget made refused = absurd refused
-lifting_refused (Err (Automaton fault)) rounds game start budget made refused = absurd refused
-lifting_refused (Err (Task fault)) rounds game start budget made refused = record { game = game; game_is = made; lifting = refused }
-lifting_refused (Err Memory) rounds game start budget made refused = refused
-lifting_refused (Err Io) rounds game start budget made refused = absurd refused
+lifting_refused (Ok found) rounds game start budget fits made refused = tt
+lifting_refused (Err (Text fault)) rounds game start budget fits made refused = absurd refused
+lifting_refused (Err (Game fault)) rounds game start budget fits made refused = absurd refused
+lifting_refused (Err (Circuit fault)) rounds game start budget fits made refused = absurd refused
+lifting_refused (Err (Automaton fault)) rounds game start budget fits made refused = absurd refused
+lifting_refused (Err (Task fault)) rounds game start budget fits made refused = record { fits = fits; game = game; game_is = made; lifting = refused }
+lifting_refused (Err Memory) rounds game start budget fits made refused = refused
+lifting_refused (Err Io) rounds game start budget fits made refused = absurd refused
 
 -- so is that of a game that is too wide
-pub wide_refused : (e : Refusal) (rounds : Rounds) (game : List Node) (start budget : ℕ) → IsRoundsGame rounds game → IsWidthRefusal game e
-    → IsOutcomeRefusal rounds start budget e
-wide_refused (Text fault) rounds game start budget made refused = absurd refused
-wide_refused (Game fault) rounds game start budget made refused = absurd refused
-wide_refused (Circuit fault) rounds game start budget made refused = absurd refused
-wide_refused (Automaton fault) rounds game start budget made refused = absurd refused
-wide_refused (Task fault) rounds game start budget made refused =
-    record { game = game; game_is = made; lifting = subst (IsLiftingFault game start budget) (sym refused.0) refused.1 }
-wide_refused Memory rounds game start budget made refused = absurd refused
-wide_refused Io rounds game start budget made refused = absurd refused
+pub wide_refused : (e : Refusal) (rounds : Rounds) (game : List Node) (start budget : ℕ) → FitsAGame rounds → IsRoundsGame rounds game
+    → IsWidthRefusal game e → IsOutcomeRefusal rounds start budget e
+wide_refused (Text fault) rounds game start budget fits made refused = absurd refused
+wide_refused (Game fault) rounds game start budget fits made refused = absurd refused
+wide_refused (Circuit fault) rounds game start budget fits made refused = absurd refused
+wide_refused (Automaton fault) rounds game start budget fits made refused = absurd refused
+wide_refused (Task fault) rounds game start budget fits made refused =
+    record { fits = fits; game = game; game_is = made; lifting = subst (IsLiftingFault game start budget) (sym refused.0) refused.1 }
+wide_refused Memory rounds game start budget fits made refused = absurd refused
+wide_refused Io rounds game start budget fits made refused = absurd refused
 
 -- runs that were made stay so, whatever refuses later but the budget
 pub lifted_refused : (refusal : Refusal) → refusal ≢ Task Budget → (players : List Player) → AreLifted None players → AreLifted (Some refusal) players

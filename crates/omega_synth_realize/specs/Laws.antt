@@ -1,6 +1,9 @@
 -- An automaton has a controller or a counter-strategy. Its game decides which: one player wins its start's node, player
--- 0 exactly if there is a controller, and player 1 exactly if there is a counter-strategy.
-use Rattle.std.specs.Prelude.{◌↔◌, ◌⊎◌, ℕ, Bool, List}
+-- 0 exactly if there is a controller, and player 1 exactly if there is a counter-strategy. Where its game is too large,
+-- that is the refusal.
+use Rattle.std.specs.Prelude.{◌≡◌, ◌↔◌, ◌⊎◌, ℕ, Bool, List}
+use Rattle.omega_text.specs.declared.refusal.game.GameFault.{GameFault}
+use Rattle.omega_text.specs.declared.refusal.task.TaskFault.{TaskFault}
 use Rattle.omega_hoa_automaton.specs.Automaton.{Description, IsAutomaton}
 use Rattle.omega_game_values.specs.Game.{Node}
 use Rattle.omega_game_values.specs.Places.{new_place}
@@ -8,7 +11,7 @@ use Rattle.omega_game_values.specs.Winning.{InRegion}
 use Rattle.omega_game_values.specs.declared.player.Player.TheVariants.{One, Zero}
 use Rattle.omega_synth_controllers.specs.Controllers.{HasController, HasCounterStrategy}
 use Rattle.omega_synth_realize.specs.Gaming.{IsPartedGame}
-use Rattle.omega_synth_realize.specs.Refusing.{HasNoLargeGame, IsJudgeable}
+use Rattle.omega_synth_realize.specs.Refusing.{HasNoLargeGame, IsJudgeable, IsLargeFault, IsLiftingFaultOf}
 
 -- there is one or the other, and not both
 pub record IsDecided (a : Description) (controlled : List ℕ) : Type 0 where
@@ -36,3 +39,14 @@ abbrev pub GamesDecide : Type 0
 GamesDecide = (a : Description) (controlled : List ℕ)
     (game : List Node) (parted : IsPartedGame a controlled game)
     → DecidesAt a controlled game (start_place a controlled game parted) × IsDecided a controlled
+
+-- a game that is too large by this fault is neither answered nor lifted, and too large by no other
+pub record IsLargeAlone (a : Description) (controlled : List ℕ) (fault : GameFault) : Type 0 where
+  pub unanswered : ¬ HasNoLargeGame a controlled
+  pub unlifted : (budget : ℕ) (lifting : TaskFault) → ¬ IsLiftingFaultOf a controlled budget lifting
+  pub only : (other : GameFault) → IsLargeFault a controlled other → fault ≡ other
+
+-- a game that is too large is so by one fault, and nothing else comes of it
+abbrev pub LargeGamesAreNotDecided : Type 0
+LargeGamesAreNotDecided = (a : Description) (controlled : List ℕ) (fault : GameFault)
+    → IsLargeFault a controlled fault → IsLargeAlone a controlled fault

@@ -4,6 +4,8 @@ use Rattle.std.specs.List.Sorted.{IsStrictlyIncreasing}
 use Rattle.omega_hoa_automaton.specs.Automaton.{Description}
 use Rattle.omega_synth_controllers.specs.Controllers.{AreEdgesMet, IsController, IsCounterStrategy}
 use Rattle.omega_synth_game.specs.RoundsOf.{AreLeastLetters, letters_by_state}
+use Rattle.omega_game_values.specs.declared.player.Player.{Player}
+use Rattle.omega_game_values.specs.declared.player.Player.TheVariants.{One, Zero}
 use Rattle.omega_synth_realize.specs.declared.realizability.Realizability.{Realizability}
 use Rattle.omega_synth_realize.specs.declared.realizability.Realizability.TheVariants.{Realizable}
 use Rattle.omega_synth_realize.specs.declared.realizability.Realizability.TheVariants.{Unrealizable}
@@ -17,3 +19,8 @@ IsRealizability a controlled (Realizable kept) =
 IsRealizability a controlled (Unrealizable kept letters) =
     IsCounterStrategy a controlled kept (letters_by_state letters) × IsStrictlyIncreasing kept
     × AreLeastLetters a controlled kept letters × (length letters ≡ a.states) × AreEdgesMet a kept
+
+-- the winner of an answer: player 0 is the system, and player 1 the environment
+abbrev pub winner_in : Realizability → Player
+winner_in (Realizable kept) = Zero
+winner_in (Unrealizable kept letters) = One

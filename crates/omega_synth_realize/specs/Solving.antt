@@ -11,10 +11,10 @@ use Rattle.omega_game_values.specs.declared.player.Player.{Player}
 use Rattle.omega_game_values.specs.declared.player.Player.TheVariants.{One, Zero}
 use Rattle.omega_measure.specs.Table.{is_too_wide}
 use Rattle.omega_solve.specs.budget.Observing.{AreMade}
-use Rattle.omega_solve.specs.budget.Within.{GoesOnAfter}
+use Rattle.omega_solve.specs.budget.Within.{EndsWithin, GoesOnAfter}
 use Rattle.omega_solve.specs.Turns.{IsNarrow}
 use Rattle.omega_synth_rounds.specs.Rounds.{AreMetAnswers, IsAnswering, IsAsking}
-use Rattle.omega_synth_rounds.specs.RoundsGame.{IsRoundsFault, IsRoundsGame}
+use Rattle.omega_synth_rounds.specs.RoundsGame.{FitsAGame, IsRoundsFault, IsRoundsGame}
 use Rattle.omega_synth_rounds.specs.declared.rounds.Rounds.{Rounds}
 use Rattle.omega_synth_realize.specs.declared.outcome.Outcome.{Outcome}
 use Rattle.omega_synth_realize.specs.declared.outcome.Outcome.TheVariants.{Answered, Asked}
@@ -40,6 +40,28 @@ IsLiftingFault game start budget TooWide =
 IsLiftingFault game start budget Budget = IsNarrow game × IsBudgetShort game start budget
 IsLiftingFault game start budget fault = ⊥
 
+-- the winner of an outcome
+abbrev pub winner_of : Outcome → Player
+winner_of (Answered kept) = Zero
+winner_of (Asked kept asked) = One
+
+-- lifting for the player in the game ends within the budget
+abbrev pub EndsFor : List Node → ℕ → Player → Type 0
+EndsFor game budget player = (lifts : ℕ) × EndsWithin game player budget lifts
+
+-- lifting found this winner within the budget: the game is too wide for neither player, and lifting for player 0 ends,
+-- and for player 1 too if that is the winner
+pub record IsLiftedFor (game : List Node) (budget : ℕ) (winner : Player) : Type 0 where
+  pub narrow : IsNarrow game
+  pub zero : EndsFor game budget Zero
+  pub one : winner ≡ One → EndsFor game budget One
+
+-- so it did in the game of the rounds
+pub record IsLiftedInRounds (rounds : Rounds) (budget : ℕ) (winner : Player) : Type 0 where
+  pub game : List Node
+  pub game_is : IsRoundsGame rounds game
+  pub lifted : IsLiftedFor game budget winner
+
 -- the refusal of a game that is too wide for one of the players
 abbrev pub IsWidthRefusal : List Node → Refusal → Type 0
 IsWidthRefusal game = or_task (λ fault. (fault ≡ TooWide)
@@ -50,8 +72,9 @@ abbrev pub IsLiftingRefusal : List Node → ℕ → ℕ → Refusal → Type 0
 IsLiftingRefusal game start budget =
     or_task (IsLiftingFault game start budget) (or_memory never)
 
--- lifting in the game of the rounds from a start has this fault
+-- the game of the rounds is not too large, and lifting in it from a start has this fault
 pub record IsRoundsLiftingFault (rounds : Rounds) (start budget : ℕ) (fault : TaskFault) : Type 0 where
+  pub fits : FitsAGame rounds
   pub game : List Node
   pub game_is : IsRoundsGame rounds game
   pub lifting : IsLiftingFault game start budget fault

@@ -6,7 +6,7 @@ ghost use Rattle.omega_solve.specs.budget.Observing.{IsObserved, refusal_in};
 ghost use Rattle.omega_synth_rounds.specs.Rounds.{IsRounds};
 ghost use Rattle.omega_synth_game.specs.Laws.{IsParted};
 ghost use Rattle.omega_synth_game.specs.Sizes.{IsGameSmall};
-ghost use Rattle.omega_synth_realize.specs.Lifting.{LiftsAutomaton, LiftsParted};
+ghost use Rattle.omega_synth_realize.specs.Lifting.{IsAnswerLifted, LiftsAutomaton, LiftsParted};
 ghost use Rattle.omega_synth_realize.specs.Realizing.{IsRealizability};
 ghost use Rattle.omega_synth_realize.specs.Refusing.{HasNoLargeGame, IsJudgeable};
 ghost use Rattle.omega_synth_realize.specs.Refusing.{IsOutcomeRefusalOf, IsRealizabilityRefusal};
@@ -79,7 +79,8 @@ fn realize_parted(
 ///
 /// Fails as `realize` does up to the game. Or else fails with [TaskFault::TooWide] if a table of measures would be too
 /// wide for one of the players, or else with [TaskFault::Budget] if a lift is due when a player's budget is used up.
-/// Each of the two may make the whole budget of lifts; for player 1 none is made if player 0 wins.
+/// Each of the two may make the whole budget of lifts; for player 1 none is made if player 0 wins. There is an answer
+/// only if the lifting for its winner, and that for player 0 before, ends within the budget.
 pub fn realize_by_lifting<L, W: Reporter<L>>(
     alloc: Global,
     automaton: &Automaton,
@@ -91,6 +92,7 @@ pub fn realize_by_lifting<L, W: Reporter<L>>(
     requires { budget ≤ most_lifts }
     ensures realizability { IfOk result (IsRealizability automaton.now controlled.now) }
     ensures judgeable { OnOk result (IsJudgeable automaton.now) }
+    ensures lifted { IfOk result (IsAnswerLifted automaton.now controlled.now budget) }
     ensures small { OnOk result (HasNoLargeGame automaton.now controlled.now) }
     ensures refused { IfErr result (IsRealizabilityRefusal automaton.now controlled.now budget) }
     ensures reported { IsObserved (LiftsAutomaton automaton.now controlled.now) (refusal_in result)
@@ -121,6 +123,7 @@ fn lift_parted<L, W: Reporter<L>>(
     requires judgeable { IsJudgeable automaton.now }
     requires budget { budget ≤ most_lifts }
     ensures realizability { IfOk result (IsRealizability automaton.now controlled.now) }
+    ensures lifted { IfOk result (IsAnswerLifted automaton.now controlled.now budget) }
     ensures small { OnOk result (IsGameSmall automaton.now controlled.now) }
     ensures refused { IfErr result (IsOutcomeRefusalOf automaton.now controlled.now budget) }
     ensures reported { IsObserved (LiftsParted automaton.now controlled.now) (refusal_in result)

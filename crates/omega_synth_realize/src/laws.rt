@@ -1,13 +1,14 @@
 //! Laws of automata and of their games.
 
-ghost use Rattle.omega_synth_realize.specs.Laws.{AutomataAreDecided, GamesDecide};
+ghost use Rattle.omega_synth_realize.specs.Laws.{AutomataAreDecided, GamesDecide, LargeGamesAreNotDecided};
 
 use omega_game_reaching::parts_keep_nodes;
 use omega_game_region_laws::{regions_cover, regions_of_parts};
 use omega_game_values::choices_are_entries;
 use omega_synth_controllers::controllers_exclude_counter_strategies;
 use omega_synth_game::{
-    answerings_are_controllers, askings_are_counter_strategies, no_start_is_refused,
+    answerings_are_controllers, askings_are_counter_strategies, large_games_are_not_small,
+    no_start_is_refused, size_faults_are_one,
 };
 use omega_synth_rounds::{chosen_answers_win, chosen_questions_win};
 
@@ -41,4 +42,13 @@ pub fn automata_are_decided()
     askings_are_counter_strategies();
     no_start_is_refused();
     controllers_exclude_counter_strategies();
+}
+
+/// States that an automaton whose game is too large has no answer and no fault of lifting, and that its game is too
+/// large by its nodes, or else by its edges.
+pub fn large_games_are_not_decided()
+    ensures { LargeGamesAreNotDecided }
+{
+    large_games_are_not_small();
+    size_faults_are_one();
 }

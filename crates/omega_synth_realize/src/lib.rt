@@ -23,7 +23,7 @@ mod winning;
 
 pub use deciding::{realize, realize_by_lifting};
 pub use games::realizability_game;
-pub use laws::{automata_are_decided, games_decide};
+pub use laws::{automata_are_decided, games_decide, large_games_are_not_decided};
 pub use lifting::lift_rounds;
 pub use omega_hoa_automaton::{Automaton, Refusal};
 pub use omega_synth_rounds::{Game, QuestionRange, RoundEdge, Rounds};

@@ -5,12 +5,13 @@ ghost use Rattle.omega_measure.specs.Table.{is_too_wide};
 ghost use Rattle.omega_solve.specs.Headline.{IsExact};
 ghost use Rattle.omega_solve.specs.Limits.{most_lifts};
 ghost use Rattle.omega_solve.specs.budget.Observing.{IsObserved, ReportsSolving, refusal_in};
-ghost use Rattle.omega_solve.specs.budget.Within.{IsSolvingRefusal};
+ghost use Rattle.omega_solve.specs.budget.Within.{EndsWithin, IsSolvingRefusal};
 ghost use Rattle.omega_synth_rounds.specs.Rounds.{IsRounds};
 ghost use Rattle.omega_synth_rounds.specs.RoundsGame.{FitsAGame, IsRoundsGame};
 ghost use Rattle.omega_solve.specs.Turns.{IsNarrow};
-ghost use Rattle.omega_synth_realize.specs.Solving.{IsLiftingRefusal, IsOutcome};
-ghost use Rattle.omega_synth_realize.specs.Solving.{IsOutcomeRefusal, IsWidthRefusal, LiftsGame, LiftsRounds};
+ghost use Rattle.omega_synth_realize.specs.Solving.{IsLiftedFor, IsLiftedInRounds, IsLiftingRefusal};
+ghost use Rattle.omega_synth_realize.specs.Solving.{IsOutcome, IsOutcomeRefusal, IsWidthRefusal};
+ghost use Rattle.omega_synth_realize.specs.Solving.{LiftsGame, LiftsRounds, winner_of};
 
 use crate::outcome::Outcome;
 use crate::winning::{controller_outcome, counter_strategy_outcome};
@@ -23,8 +24,8 @@ use omega_text::{Refusal, TaskFault};
 use std::alloc::Global;
 
 /// Decides who wins `rounds` from the state `start` by lifting within `budget`, and returns what wins. Lifts for player
-/// 0, and for player 1 if player 0 does not win; each may make the whole budget of lifts. Each run is reported to
-/// `observer`.
+/// 0, and for player 1 if player 0 does not win; each may make the whole budget of lifts, and ends within it where
+/// there is an outcome. Each run is reported to `observer`.
 ///
 /// Fails with [GameFault::TooManyNodes] or [GameFault::TooManyEdges] if the game is too large. Or else fails with
 /// [TaskFault::TooWide] if the table of measures would be too wide for one of the players, or else with
@@ -42,6 +43,8 @@ pub fn lift_rounds<L, W: Reporter<L>>(
     requires start { start < length rounds.now.states }
     requires budget { budget ≤ most_lifts }
     ensures outcome { IfOk result (IsOutcome rounds.now start) }
+    ensures lifted { IfOk result
+        (λ outcome. IsLiftedInRounds rounds.now budget (winner_of outcome)) }
     ensures fits { OnOk result (FitsAGame rounds.now) }
     ensures refused { IfErr result (IsOutcomeRefusal rounds.now start budget) }
     ensures reported { IsObserved (LiftsRounds rounds.now) (refusal_in result)
@@ -63,10 +66,12 @@ pub(crate) fn lift_in<L, W: Reporter<L>>(
     observer: &mut L,
 ) -> Result<Outcome, Refusal>
     requires rounds { IsRounds rounds.now }
+    requires fits { FitsAGame rounds.now }
     requires game { IsRoundsGame rounds.now game.now }
     requires start { start < length rounds.now.states }
     requires budget { budget ≤ most_lifts }
     ensures outcome { IfOk result (IsOutcome rounds.now start) }
+    ensures lifted { IfOk result (λ outcome. IsLiftedFor game.now budget (winner_of outcome)) }
     ensures refused { IfErr result (IsOutcomeRefusal rounds.now start budget) }
     ensures reported { IsObserved (LiftsGame game.now) (refusal_in result)
         (W.tells reporter.now) (W.pace reporter.now) budget observer.old observer.new }
@@ -117,6 +122,7 @@ fn lifted_outcome<L, W: Reporter<L>>(
     requires narrow { IsNarrow game.now }
     requires budget { budget ≤ most_lifts }
     ensures outcome { IfOk result (IsOutcome rounds.now start) }
+    ensures lifted { IfOk result (λ outcome. IsLiftedFor game.now budget (winner_of outcome)) }
     ensures refused { IfErr result (IsLiftingRefusal game.now start budget) }
     ensures reported { IsObserved (LiftsGame game.now) (refusal_in result)
         (W.tells reporter.now) (W.pace reporter.now) budget observer.old observer.new }
@@ -162,6 +168,7 @@ fn found_for<L, W: Reporter<L>>(
     requires budget { budget ≤ most_lifts }
     ensures exact { IfOk result
         (λ found. IsExact _game.now player found.won.items found.choice.items) }
+    ensures ended { IfOk result (λ found. EndsWithin _game.now player budget found.lifts) }
     ensures refused { IfErr result (IsSolvingRefusal _game.now player budget) }
     ensures reported { ReportsSolving (W.tells reporter.now) (W.pace reporter.now)
         _game.now player budget result observer.old observer.new }

@@ -1,10 +1,10 @@
 ghost use Rattle.std.specs.Prelude.{◌≡◌, [], IfOk, IsOkUnless, length, map};
 ghost use Rattle.std.specs.List.{range_with_len};
 ghost use Rattle.omega_synth_rounds.specs.Rounds.{asked_in};
-ghost use Rattle.omega_synth_realize.specs.Solving.{IsOutcome};
+ghost use Rattle.omega_synth_realize.specs.Solving.{IsOutcome, winner_of};
 ghost use Rattle.omega_synth_game.specs.Laws.{IsParted};
 ghost use Rattle.omega_synth_game.specs.RoundsOf.{letter_of};
-ghost use Rattle.omega_synth_realize.specs.Realizing.{IsRealizability};
+ghost use Rattle.omega_synth_realize.specs.Realizing.{IsRealizability, winner_in};
 
 use crate::Outcome;
 use crate::parting::Parted;
@@ -29,6 +29,7 @@ pub(crate) fn realizability_of(
         parted.now.letters parted.now.start }
     requires outcome { IsOutcome parted.now.rounds parted.now.start outcome }
     ensures realizability { IfOk result (IsRealizability automaton.now _controlled.now) }
+    ensures winner { IfOk result (λ found. winner_in found ≡ winner_of outcome) }
     ensures memory { IsOkUnless result Refusal.Memory }
 {
     answerings_are_controllers();

@@ -35,6 +35,7 @@ pub fn solve_rounds(alloc: Global, rounds: &Rounds, start: u32) -> Result<Outcom
 /// Decides who wins `rounds` from `start` in their `game`. Fails with [TaskFault::TooWide] or [TaskFault::Budget].
 fn solve_in(alloc: Global, rounds: &Rounds, game: &Game, start: u32) -> Result<Outcome, Refusal>
     requires rounds { IsRounds rounds.now }
+    requires fits { FitsAGame rounds.now }
     requires game { IsRoundsGame rounds.now game.now }
     requires start { start < length rounds.now.states }
     ensures outcome { IfOk result (IsOutcome rounds.now start) }

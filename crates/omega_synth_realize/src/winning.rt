@@ -1,11 +1,11 @@
 //! The outcome that a winning strategy gives.
 
-ghost use Rattle.std.specs.Prelude.{◌<◌, IfOk, IsOkUnless, length};
+ghost use Rattle.std.specs.Prelude.{◌≡◌, ◌<◌, IfOk, IsOkUnless, length};
 ghost use Rattle.omega_game_values.specs.declared.player.Player.TheVariants.{One, Zero};
 ghost use Rattle.omega_synth_rounds.specs.Extracting.{IsWinningFrom};
 ghost use Rattle.omega_synth_rounds.specs.Rounds.{IsRounds};
 ghost use Rattle.omega_synth_rounds.specs.RoundsGame.{IsRoundsGame};
-ghost use Rattle.omega_synth_realize.specs.Solving.{IsOutcome};
+ghost use Rattle.omega_synth_realize.specs.Solving.{IsOutcome, winner_of};
 
 use crate::met::met_edges;
 use crate::outcome::Outcome;
@@ -28,6 +28,7 @@ pub(crate) fn controller_outcome(
     requires start { start < length rounds.now.states }
     requires winning { IsWinningFrom game.now Zero choices.now start }
     ensures outcome { IfOk result (IsOutcome rounds.now start) }
+    ensures winner { IfOk result (λ outcome. winner_of outcome ≡ Zero) }
     ensures memory { IsOkUnless result Refusal.Memory }
 {
     chosen_answers_win();
@@ -52,6 +53,7 @@ pub(crate) fn counter_strategy_outcome(
     requires start { start < length rounds.now.states }
     requires winning { IsWinningFrom game.now One choices.now start }
     ensures outcome { IfOk result (IsOutcome rounds.now start) }
+    ensures winner { IfOk result (λ outcome. winner_of outcome ≡ One) }
     ensures memory { IsOkUnless result Refusal.Memory }
 {
     chosen_questions_win();

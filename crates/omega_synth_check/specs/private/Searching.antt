@@ -4,7 +4,7 @@ use Rattle.omega_hoa_automaton.specs.Automaton.{Description, IsAutomaton}
 use Rattle.omega_hoa_automaton.specs.Branching.{has_universal_branching}
 use Rattle.omega_synth_controllers.specs.Controllers.{Answers}
 use Rattle.omega_synth_game.specs.RoundsOf.{holds_in}
-use Rattle.omega_synth_check.specs.Judging.{IsAnswered}
+use Rattle.omega_synth_check.specs.Judging.{AreInputs, IsAnswered}
 use Rattle.omega_synth_check.specs.Lacks.{AreReachedSettled, IsSettled}
 use Rattle.omega_synth_check.specs.Refusing.{IsHardEdge}
 use Rattle.omega_synth_check.specs.declared.searching.Lacking.{Lacking}
@@ -28,16 +28,18 @@ abbrev pub SomeAnswers : Description → (controlled numbers : List ℕ) → (�
 SomeAnswers a controlled numbers given =
     (number : ℕ) × Contains numbers number × Answers a controlled number given
 
--- the state at a place does not answer the letter
+-- the state at a place does not answer the letter, which lists propositions of the environment alone
 abbrev pub IsLackingIn : Description → (controlled states : List ℕ) → Lacking → Type 0
 IsLackingIn a controlled states lacking =
     (lacking.place < length states)
-    × ¬ IsAnswered a controlled (state_at states lacking.place) (holds_in lacking.letter)
+    × (¬ IsAnswered a controlled (state_at states lacking.place) (holds_in lacking.letter))
+    × AreInputs a controlled lacking.letter
 
 -- what a state that was visited lacks: a letter that it does not answer, or nothing
 abbrev pub IsVisited : Description → List ℕ → ℕ → Option (List ℕ) → Type 0
 IsVisited a controlled state None = IsSettled a controlled state
-IsVisited a controlled state (Some letter) = ¬ IsAnswered a controlled state (holds_in letter)
+IsVisited a controlled state (Some letter) =
+    (¬ IsAnswered a controlled state (holds_in letter)) × AreInputs a controlled letter
 
 -- what a search found: a state that lacks an answer, or that none does
 abbrev pub IsSearched : Description → (controlled states : List ℕ) → Option Lacking → Type 0

@@ -1,7 +1,9 @@
 -- the question is that of the text, and so is what refuses it; without a question no run is made
+use Rattle.std.proofs.Common.{ℕ, List, subst}
 use Rattle.std.proofs.lemmas.Result.{err_from_is_err_and}
 use Rattle.omega_solve.proofs.within_budget.Observed.{none_observed, observed_alike, observed_as, spares}
 use Rattle.omega_text.specs.Cases.{or_memory}
+use Rattle.omega_synth_realize.specs.Lifting.{IsAnswerLifted}
 use Rattle.omega_answers_synth.specs.private.Question.{IsQuestionRefusal}
 use Rattle.omega_answers_synth.proofs.Observed.{of_text, unasked_spares}
 use Rattle.omega_answers_synth.proofs.Stated.{stated_as}
@@ -41,3 +43,8 @@ returns-clause-reported g c =
     let stated = stated_as _ _ _ asked c.as_slice-controlled.ensures in
     observed_as _ _ _ _ _ _ _ _ (λ nodes players lifts. of_text c.args.text.now _ _ _ nodes players asked.read stated lifts)
     (rw c.in_ok-realizability.was at c.realize_by_lifting.ensures.reported)
+
+pub returns-clause-lifted : goal.returns-clause-lifted
+returns-clause-lifted g c =
+    subst (λ (numbers : List ℕ). IsAnswerLifted c.in_ok-question.question.automaton numbers c.args.budget c.in_ok-realizability.realizability)
+    c.as_slice-controlled.ensures c.in_ok-realizability.ensures.lifted

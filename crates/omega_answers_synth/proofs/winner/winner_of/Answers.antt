@@ -17,6 +17,7 @@ returns-clause-winning c =
       controlled = c.args.decided.now.question.controlled;
       stated = c.requires.stated;
       judgeable = c.requires.judgeable;
+      small = c.requires.small;
       winner = subst (λ (numbers : List ℕ). IsWinner c.args.decided.now.question.automaton numbers made.0 made.1.items) c.as_slice.ensures winner;
     })
     c.winner_text.ensures.winner

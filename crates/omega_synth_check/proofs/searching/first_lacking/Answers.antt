@@ -2,7 +2,7 @@
 use Rattle.std.proofs.Common.{◌+◌, ◌<◌, ◌≤◌, ℕ, List, length, subst, arith}
 use Rattle.omega_hoa_edges.specs.Limits.{most_states}
 use Rattle.omega_synth_game.specs.RoundsOf.{holds_in}
-use Rattle.omega_synth_check.specs.Judging.{IsAnswered}
+use Rattle.omega_synth_check.specs.Judging.{AreInputs, IsAnswered}
 use Rattle.omega_synth_check.specs.private.Meeting.{state_at}
 use Rattle.omega_synth_check.specs.Lacks.{IsSettled}
 use Rattle.omega_synth_check.specs.private.Searching.{IsVisited}
@@ -53,11 +53,12 @@ returns-in-Some-clause-lacking c =
     let more : List ℕ = c.visit.new.met.states.keys in
     let at : ℕ = c.loop-at.at in
     let below : at < length states = omega (arith, c.loop-at-test.true, c.len.ensures) in
-    let lacks : ¬ IsAnswered a controlled (state_at states at) (holds_in c.in-Some.letter) =
+    let lacks : (¬ IsAnswered a controlled (state_at states at) (holds_in c.in-Some.letter)) × AreInputs a controlled c.in-Some.letter =
     subst (IsVisited a controlled (state_at states at)) c.in-Some.is c.in_ok-letter.ensures.letter in (
       omega (arith, below, longer states more c.in_ok-letter.ensures.extends),
       λ answered.
-          lacks (subst (λ (s : ℕ). IsAnswered a controlled s (holds_in c.in-Some.letter)) (state_kept states more at c.in_ok-letter.ensures.extends below) answered),
+          lacks.0 (subst (λ (s : ℕ). IsAnswered a controlled s (holds_in c.in-Some.letter)) (state_kept states more at c.in_ok-letter.ensures.extends below) answered),
+      lacks.1,
     )
 
 pub returns-clause-lacking : goal.returns-clause-lacking

@@ -5,6 +5,7 @@ use Rattle.std.proofs.lemmas.List.Elements.{Contains-get_or}
 use Rattle.omega_hoa_edges.proofs.Refusals.{passed_on}
 use Rattle.omega_lang_runs.specs.Lasso.{IsStep}
 use Rattle.omega_synth_game.specs.Making.{AllLeave}
+use Rattle.omega_synth_check.specs.Judging.{AreInputs}
 use Rattle.omega_synth_check.specs.private.Meeting.{state_at}
 use Rattle.omega_synth_check.specs.private.Searching.{IsVisited, NoneAnswers, SomeAnswers}
 use Rattle.omega_synth_check.proofs.Leavers.{has_place}
@@ -65,4 +66,5 @@ returns-clause-letter c =
     subst (λ (s : ℕ). IsVisited a controlled s c.in_ok-letter.letter) c.state_at-state.ensures
     (visited a c.requires.search.automaton c.requires.search.plain controlled c.state_at-state.result numbers c.of_state-numbers.ensures c.in_ok-letter.letter c.in_ok-letter.ensures.few
     (λ letter is. subst (λ (found : Option (List ℕ)). IfSome found (λ letter. NoneAnswers a controlled numbers letter)) is c.in_ok-letter.ensures.unanswered)
+    (λ letter is. subst (λ (found : Option (List ℕ)). IfSome found (AreInputs a controlled)) is c.in_ok-letter.ensures.inputs)
     (λ is. subst (λ (found : Option (List ℕ)). IfNone found ((given : ℕ → Bool) → SomeAnswers a controlled numbers given)) is c.in_ok-letter.ensures.answered))

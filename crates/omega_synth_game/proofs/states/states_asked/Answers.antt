@@ -1,5 +1,5 @@
 -- the questions of one state more
-use Rattle.std.proofs.Common.{◌≡◌, ◌+◌, ◌<◌, ◌++◌, [], ◌∷◌, ℕ, List, length, get_or, sym, ap, refl, ◌∙◌, subst, arith, length-append}
+use Rattle.std.proofs.Common.{◌≡◌, ◌+◌, ◌<◌, ◌++◌, [], ◌∷◌, ℕ, List, length, get_or, sym, ap, refl, subst, arith, length-append}
 use Rattle.std.specs.List.Sorted.{IsStrictlyIncreasing}
 use Rattle.omega_synth_rounds.specs.declared.rounds.QuestionRange.{QuestionRange}
 use Rattle.omega_hoa_edges.proofs.Refusals.{passed_on}

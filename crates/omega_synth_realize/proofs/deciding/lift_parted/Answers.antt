@@ -1,7 +1,9 @@
 -- a fault of the rounds is one of rounds of the automaton, and so are the runs
-use Rattle.std.proofs.Common.{◌≡◌, None, Some}
-use Rattle.std.proofs.lemmas.Result.{err_from_is_err_and}
+use Rattle.std.proofs.Common.{◌≡◌, inr, None, Some, subst, sym}
+use Rattle.std.proofs.lemmas.Result.{IfOk-weaker, err_from_is_err_and}
 use Rattle.omega_text.specs.declared.refusal.Refusal.TheVariants.{Memory}
+use Rattle.omega_game_values.specs.declared.player.Player.{Player}
+use Rattle.omega_synth_realize.specs.Solving.{IsLiftedInRounds}
 use Rattle.omega_solve.proofs.within_budget.Observed.{observed_after, observed_alike, observed_as}
 use Rattle.omega_synth_realize.proofs.Realized.{start_is_state}
 use Rattle.omega_synth_realize.proofs.Refused.{lifts_parted, on_ok_of, parted_refused, rounds_undecided}
@@ -41,3 +43,15 @@ returns-clause-small g c =
     on_ok_of c.realizability_of.result _
     (small c.args.automaton.now c.args.controlled.now c.args.parted.now.rounds c.args.parted.now.letters c.args.parted.now.start c.requires.parted
     c.in_ok-outcome.ensures.fits)
+
+pub returns-clause-lifted : goal.returns-clause-lifted
+returns-clause-lifted g c =
+    IfOk-weaker c.realizability_of.result _ _
+    (λ found is. inr (record {
+      rounds = c.args.parted.now.rounds;
+      letters = c.args.parted.now.letters;
+      start = c.args.parted.now.start;
+      parted = c.requires.parted;
+      is = subst (λ (winner : Player). IsLiftedInRounds c.args.parted.now.rounds c.args.budget winner) (sym is) c.in_ok-outcome.ensures.lifted;
+    }))
+    c.realizability_of.ensures.winner

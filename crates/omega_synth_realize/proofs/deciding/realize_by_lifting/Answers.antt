@@ -1,6 +1,6 @@
 -- the refusals of the steps, and the runs, if there is a start
 use Rattle.std.proofs.Common.{◌≡◌, inl, inr}
-use Rattle.std.proofs.lemmas.Result.{err_from_is_err_and}
+use Rattle.std.proofs.lemmas.Result.{IfOk-weaker, err_from_is_err_and}
 use Rattle.omega_text.specs.declared.refusal.Refusal.TheVariants.{Memory}
 use Rattle.omega_solve.proofs.within_budget.Observed.{none_observed, observed_after, observed_alike, observed_as, spares}
 use Rattle.omega_synth_realize.specs.Refusing.{IsPartingRefusal, IsRealizabilityRefusal}
@@ -50,3 +50,7 @@ returns-in-None-clause-judgeable g c = on_ok_of c.without_start.result _ c.in_ok
 pub returns-in-None-clause-refused : goal.returns-in-None-clause-refused
 returns-in-None-clause-refused g c =
     memory_refused c.without_start.result (IsRealizabilityRefusal c.args.automaton.now c.args.controlled.now c.args.budget) tt c.without_start.ensures.memory
+
+pub returns-in-None-clause-lifted : goal.returns-in-None-clause-lifted
+returns-in-None-clause-lifted g c =
+    IfOk-weaker c.without_start.result _ _ (λ found right. inl (rw c.in-None.is at c.in_ok-found.ensures.none)) c.without_start.ensures.realizability

@@ -15,7 +15,7 @@ pub returns-in_err-fits_both-clause-refused : goal.returns-in_err-fits_both-clau
 returns-in_err-fits_both-clause-refused g c =
     let p = err_from_is_err_and c.from_residual.result c.from_residual.ensures.1 in
     rw (p.1, p.2)
-    (wide_refused c.in_err-fits_both.field-0.0 c.args.rounds.now c.args.game.now c.args.start c.args.budget c.requires.game
+    (wide_refused c.in_err-fits_both.field-0.0 c.args.rounds.now c.args.game.now c.args.start c.args.budget c.requires.fits c.requires.game
     (rw c.forward_game.ensures at c.in_err-fits_both.ensures.refused))
 
 pub returns-in_err-fits_both-clause-reported : goal.returns-in_err-fits_both-clause-reported
@@ -31,4 +31,4 @@ returns-in_err-reordered-clause-reported g c =
 
 pub returns-clause-refused : goal.returns-clause-refused
 returns-clause-refused g c =
-    lifting_refused c.lifted_outcome.result c.args.rounds.now c.args.game.now c.args.start c.args.budget c.requires.game c.lifted_outcome.ensures.refused
+    lifting_refused c.lifted_outcome.result c.args.rounds.now c.args.game.now c.args.start c.args.budget c.requires.fits c.requires.game c.lifted_outcome.ensures.refused

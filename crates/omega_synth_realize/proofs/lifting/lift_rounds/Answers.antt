@@ -1,5 +1,6 @@
 -- runs in the game of the rounds, and none if there is no game
 use Rattle.std.proofs.Common.{List, subst, sym}
+use Rattle.std.proofs.lemmas.Result.{IfOk-weaker}
 use Rattle.omega_game_values.specs.Game.{Node}
 use Rattle.omega_solve.proofs.within_budget.Observed.{none_observed, observed_alike, observed_as, spares}
 use Rattle.omega_synth_rounds.specs.RoundsGame.{IsRoundsGame, IsRoundsRefusal}
@@ -16,3 +17,9 @@ returns-clause-reported g c =
     (λ nodes players lifted.
     (subst (λ (game : List Node). IsRoundsGame c.args.rounds.now game) (sym lifted.0) c.in_ok-game.ensures.game, lifted.1))
     c.lift_in.ensures.reported
+
+pub returns-clause-lifted : goal.returns-clause-lifted
+returns-clause-lifted g c =
+    IfOk-weaker c.lift_in.result _ _
+    (λ outcome lifted. record { game = c.in_ok-game.game; game_is = c.in_ok-game.ensures.game; lifted = lifted })
+    c.lift_in.ensures.lifted

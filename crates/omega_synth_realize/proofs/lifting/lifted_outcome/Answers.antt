@@ -1,7 +1,7 @@
 -- player 0 wins where found, and else player 1
 use Rattle.std.proofs.Common.{◌≡◌, ◌<◌, List, Option, ℕ, None, Ok, Err, inl, inr, length, refl, sym, ◌∙◌, subst, arith}
 use Rattle.std.proofs.lemmas.Bool.{false≢true}
-use Rattle.std.proofs.lemmas.Result.{err_from_is_err_and}
+use Rattle.std.proofs.lemmas.Result.{IfOk-weaker, err_from_is_err_and}
 use Rattle.omega_game_values.specs.Winning.{InRegion}
 use Rattle.omega_game_values.specs.declared.player.Player.TheVariants.{One, Zero}
 use Rattle.omega_text.specs.declared.refusal.Refusal.TheVariants.{Memory}
@@ -70,3 +70,26 @@ returns-in_err-one-clause-refused g c =
     let p = err_from_is_err_and c.from_residual-in_err-one.result c.from_residual-in_err-one.ensures.1 in
     rw (p.1, p.2)
     (player_refused c.in_err-one.field-0.0 c.args.game.now One c.args.start c.args.budget c.requires.narrow (λ on. inr (lost, on)) c.in_err-one.ensures.refused)
+
+zero_one : Zero ≡ One → ⊥
+zero_one e = cc
+
+pub returns-then-has_won-clause-lifted : goal.returns-then-has_won-clause-lifted
+returns-then-has_won-clause-lifted g c =
+    IfOk-weaker c.controller_outcome.result _ _
+    (λ outcome is. record {
+      narrow = c.requires.narrow;
+      zero = (c.in_ok-zero.zero.lifts, c.in_ok-zero.ensures.ended);
+      one = λ other. absurd (zero_one (sym is ∙ other));
+    })
+    c.controller_outcome.ensures.winner
+
+pub returns-clause-lifted : goal.returns-clause-lifted
+returns-clause-lifted g c =
+    IfOk-weaker c.counter_strategy_outcome.result _ _
+    (λ outcome is. record {
+      narrow = c.requires.narrow;
+      zero = (c.in_ok-zero.zero.lifts, c.in_ok-zero.ensures.ended);
+      one = λ other. (c.in_ok-one.one.lifts, c.in_ok-one.ensures.ended);
+    })
+    c.counter_strategy_outcome.ensures.winner

@@ -1,8 +1,8 @@
 -- edges that win the rounds are a controller, and questions that win them a counter-strategy
-use Rattle.std.proofs.Common.{◌≡◌, ℕ, List, map, ap, ◌∙◌, subst}
+use Rattle.std.proofs.Common.{◌≡◌, ℕ, List, map, sym, ap, ◌∙◌, subst}
 use Rattle.std.specs.List.{range_with_len}
 use Rattle.omega_synth_rounds.specs.Rounds.{asked_in}
-use Rattle.omega_synth_realize.specs.Solving.{IsOutcome}
+use Rattle.omega_synth_realize.specs.Solving.{IsOutcome, winner_of}
 use Rattle.omega_synth_realize.specs.declared.outcome.Outcome.{Outcome}
 use Rattle.omega_synth_game.specs.RoundsOf.{letter_of}
 use Rattle.omega_synth_realize.proofs.Realized.{letters_are, letters_count}
@@ -41,3 +41,9 @@ returns-in_ok-letters-in-Asked-clause-realizability c =
       letters_count a.states letters c.in-Asked.asked c.in_ok-letters-in-Asked.letters found,
       c.met_answers_are_met.ensures a c.args._controlled.now parted.rounds letters parted.start c.in-Asked.kept c.requires.parted won.2,
     )
+
+pub returns-in-Answered-clause-winner : goal.returns-in-Answered-clause-winner
+returns-in-Answered-clause-winner c = sym (ap winner_of c.in-Answered.is)
+
+pub returns-in_ok-letters-in-Asked-clause-winner : goal.returns-in_ok-letters-in-Asked-clause-winner
+returns-in_ok-letters-in-Asked-clause-winner c = sym (ap winner_of c.in-Asked.is)
