@@ -1,0 +1,33 @@
+-- the circuit is read and judged, or its text is refused
+use Rattle.std.proofs.Common.{inl, inr}
+use Rattle.std.proofs.lemmas.Result.{IfErr-weaker, IfOk-weaker}
+use Rattle.omega_aiger.specs.Text.{IsCircuitTextRefusal}
+use Rattle.omega_answers.proofs.About.{of_read}
+use Rattle.omega_answers_formula.specs.Formula.{IsFormulaOfText}
+use Rattle.omega_io.specs.declared.refused.Which.TheVariants.{Input}
+use Rattle.omega_ltl_formula.specs.Table.{NumberedFormula}
+use Rattle.omega_ltl_text.specs.Text.{IsFormulaTextRefusal}
+use Rattle.omega_answers_circuit.proofs.verify_formula.verdict_on_text.Goals as goal
+
+pub returns-in-Ok-clause-verdict : goal.returns-in-Ok-clause-verdict
+returns-in-Ok-clause-verdict c =
+    IfOk-weaker c.named_verdict.result _ _ (λ made verdict. (c.in-Ok.circuit, c.in-Ok.ensures.circuit, verdict)) c.named_verdict.ensures.verdict
+
+pub returns-in-Ok-clause-refused : goal.returns-in-Ok-clause-refused
+returns-in-Ok-clause-refused c =
+    IfErr-weaker c.named_verdict.result _ _
+    (λ refused is source of_formula.
+    inr (record {
+      file = c.args.formula.now;
+      file_read = of_formula;
+      input = c.in-Ok.circuit;
+      input_read = c.in-Ok.ensures.circuit;
+      holds = is;
+    }))
+    c.named_verdict.ensures.refused
+
+pub returns-in-Err-clause-refused : goal.returns-in-Err-clause-refused
+returns-in-Err-clause-refused c = λ source of_formula.
+    inl (of_read (IsFormulaTextRefusal source) (λ refusal. (file : NumberedFormula) × IsFormulaOfText source file × IsCircuitTextRefusal c.args.text.now refusal)
+    Input (IsCircuitTextRefusal c.args.text.now) (λ refusal is. (c.args.formula.now, of_formula, is)) (λ failed. failed)
+    c.in-Err.refusal c.in-Err.ensures.refused c.of.result c.of.ensures)

@@ -1,0 +1,21 @@
+-- What is answered to the texts of circuits, and what is refused.
+pub mod Circuit
+pub mod Check
+pub mod Show
+pub mod ShowJson
+pub mod Canon
+pub mod WriteAutomaton
+pub mod Laws
+pub mod Sides
+pub mod Judging
+pub mod JudgementAnswer
+pub mod Verify
+pub mod FormulaVerify
+pub mod JudgingLaws
+pub mod ControllerCircuit
+pub mod OwnCircuit
+pub mod WinningCircuit
+pub mod FormulaCircuit
+pub mod WritingLaws
+pub use Rattle.omega_text.specs.Cases
+pub use Rattle.omega_text.specs.Refusal
