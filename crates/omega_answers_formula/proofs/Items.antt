@@ -8,7 +8,7 @@ use Rattle.omega_io.specs.declared.exit.Exit.{Exit}
 use Rattle.omega_ltl_formula.specs.Table.{NumberedFormula}
 use Rattle.omega_answers_formula.specs.Formula.{IsFormulaOfText}
 use Rattle.omega_answers_formula.specs.InTurn.{IsAbout, IsAskingRefused, IsFirstRefused}
-use Rattle.omega_answers_formula.specs.SatisfiesStream.{AnswersFormula, AreItemsAnswered, AreItemsRefused, AreSatisfiesStreamRefused, IsItemRefused, RefusesFormula}
+use Rattle.omega_answers_formula.specs.SatisfiesStream.{AnswersFormula, AreItemsRefused, AreSatisfiesStreamRefused, IsEachAnswered, IsItemRefused, RefusesFormula}
 use Rattle.omega_answers_formula.specs.declared.refused_formulas.About.{About}
 use Rattle.omega_answers_formula.specs.declared.refused_formulas.About.TheVariants.{Formula, Input, Question}
 use Rattle.omega_answers_formula.specs.declared.refused_formulas.RefusedFormulas.{RefusedFormulas}
@@ -16,7 +16,7 @@ use Rattle.omega_answers_formula.proofs.InTurn.{numbered_at}
 
 -- a formula is refused with this item, and those before it are answered
 pub refused_at : (explain : Bool) (formulas : List NumberedFormula) (items : List Item) (place : ℕ) (item : Item) (exit : Exit) (output : List ℕ)
-    → place < length items → item ≡ get_or items place item → AreItemsAnswered explain formulas (take place items) exit output
+    → place < length items → item ≡ get_or items place item → IsEachAnswered explain formulas (take place items) exit output
     → (refused : RefusedFormulas) → IsAskingRefused (AnswersFormula explain item) (RefusesFormula item) formulas refused
     → AreItemsRefused explain formulas items refused
 refused_at explain formulas items place item exit output below is answered refused asked = go refused.about refused.refusal asked

@@ -10,6 +10,7 @@ use Rattle.omega_hoa.specs.declared.item.Item.TheVariants.{Aborted, Automaton}
 use Rattle.omega_io.specs.declared.exit.Exit.{Exit}
 use Rattle.omega_io.specs.declared.exit.Exit.TheVariants.{Done}
 use Rattle.omega_answers.specs.TwoTexts.{OfBoth}
+use Rattle.omega_answers_stream.specs.Counting.{automata_in}
 use Rattle.omega_ltl_formula.specs.Table.{NumberedFormula}
 use Rattle.omega_ltl_satisfaction.specs.Refusing.{IsSatisfactionRefusal}
 use Rattle.omega_answers_formula.specs.Formula.{IsFormulaOfText}
@@ -35,10 +36,16 @@ RefusesFormula Aborted formula refusal = refusal ≡ Memory
 -- ---- all items
 
 -- for each item the formulas are answered, one after the other
-abbrev pub AreItemsAnswered : (explain : Bool) → List NumberedFormula → List Item → Exit
+abbrev pub IsEachAnswered : (explain : Bool) → List NumberedFormula → List Item → Exit
     → List ℕ → Type 0
-AreItemsAnswered explain formulas =
+IsEachAnswered explain formulas =
     AreAnswered (λ item. AreAnswered (AnswersFormula explain item) formulas)
+
+-- the same, and so many of the items are automata
+abbrev pub AreItemsAnswered : (explain : Bool) → List NumberedFormula → List Item → Exit
+    → List ℕ → (automata : ℕ) → Type 0
+AreItemsAnswered explain formulas items exit output automata =
+    IsEachAnswered explain formulas items exit output × (automata ≡ automata_in items)
 
 -- with an item the formula with this number is refused, the first that is; for the items before it, all are answered
 pub record IsItemRefused (explain : Bool) (formulas : List NumberedFormula) (items : List Item)
@@ -49,7 +56,7 @@ pub record IsItemRefused (explain : Bool) (formulas : List NumberedFormula) (ite
   pub split : items ≡ before ++ item ∷ rest
   pub exit : Exit
   pub output : List ℕ
-  pub answered : AreItemsAnswered explain formulas before exit output
+  pub answered : IsEachAnswered explain formulas before exit output
   pub refused : IsFirstRefused (AnswersFormula explain item) (RefusesFormula item) formulas number refusal
 
 -- a formula is refused with an item, or memory is wanting
@@ -60,12 +67,12 @@ AreItemsRefused explain formulas items =
 
 -- ---- texts
 
--- the answers of `satisfies --stream`: the texts are those of formulas and of a stream
+-- the answers of `satisfies --stream` for so many automata: the texts are those of formulas and of a stream
 abbrev pub AreSatisfiesStreamAnswers : (formulas : List (List ℕ)) → (text : List ℕ)
-    → (explain : Bool) → Exit → List ℕ → Type 0
-AreSatisfiesStreamAnswers formulas text explain exit output =
+    → (explain : Bool) → Exit → List ℕ → (automata : ℕ) → Type 0
+AreSatisfiesStreamAnswers formulas text explain exit output automata =
     OfBoth (AllZip IsFormulaOfText formulas) (IsStreamText text)
-    (λ read items. AreItemsAnswered explain read items exit output)
+    (λ read items. AreItemsAnswered explain read items exit output automata)
 
 -- the refusal of `satisfies --stream`: that of the first formula's text that is refused, or else that of the stream's
 -- text, or else that of the first item with which a formula is refused, and of the first formula that is

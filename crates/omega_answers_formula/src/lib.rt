@@ -16,6 +16,7 @@ mod refused_formulas;
 mod satisfies;
 mod satisfies_stream;
 mod satisfies_word;
+mod stream_answers;
 mod title;
 
 pub use canonical::canonical_formula;
@@ -29,3 +30,4 @@ pub use refused_formulas::{About, RefusedFormulas};
 pub use satisfies::{satisfies_each, satisfies_texts};
 pub use satisfies_stream::satisfies_stream_each;
 pub use satisfies_word::satisfies_word_each;
+pub use stream_answers::StreamAnswers;

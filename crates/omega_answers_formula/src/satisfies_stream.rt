@@ -13,6 +13,8 @@ use crate::formula_question::FormulaQuestion;
 use crate::in_turn::{answers_in_turn, later_exit, read_formulas};
 use crate::refused_formulas::{About, RefusedFormulas};
 use crate::satisfies::satisfaction_reply;
+use crate::stream_answers::StreamAnswers;
+use omega_answers_stream::count_automata;
 use omega_hoa::{Item, read_stream};
 use omega_io::{Exit, Refusal};
 use omega_ltl_formula::Formula;
@@ -32,10 +34,10 @@ pub fn satisfies_stream_each(
     formulas: &[ByteString],
     text: &[u8],
     explain: bool,
-) -> Result<FormulaAnswers, RefusedFormulas>
-    ensures answers { IfOk result (λ made.
-        AreSatisfiesStreamAnswers formulas.now text.now explain made.exit made.text.items) }
-    ensures unmentioned { IfOk result (λ made. made.unmentioned.items ≡ []) }
+) -> Result<StreamAnswers, RefusedFormulas>
+    ensures answers { IfOk result (λ made. AreSatisfiesStreamAnswers formulas.now text.now explain
+        made.answers.exit made.answers.text.items made.automata) }
+    ensures unmentioned { IfOk result (λ made. made.answers.unmentioned.items ≡ []) }
     ensures refused { IfErr result (AreSatisfiesStreamRefused formulas.now text.now explain) }
 {
     match read_formulas(alloc, formulas) {
@@ -51,10 +53,11 @@ fn answers_for_stream(
     formulas: &[Formula],
     text: &[u8],
     explain: bool,
-) -> Result<FormulaAnswers, RefusedFormulas>
+) -> Result<StreamAnswers, RefusedFormulas>
     ensures answers { IfOk result (λ made. (items : List Item) × IsStreamText text.now items
-        × AreItemsAnswered explain formulas.now items made.exit made.text.items) }
-    ensures unmentioned { IfOk result (λ made. made.unmentioned.items ≡ []) }
+        × AreItemsAnswered explain formulas.now items made.answers.exit made.answers.text.items
+        made.automata) }
+    ensures unmentioned { IfOk result (λ made. made.answers.unmentioned.items ≡ []) }
     ensures refused { (texts : List (List ℕ)) → AllZip IsFormulaOfText texts formulas.now
         → IfErr result (AreSatisfiesStreamRefused texts text.now explain) }
 {
@@ -71,10 +74,10 @@ fn answers_for_items(
     formulas: &[Formula],
     items: &[Item],
     explain: bool,
-) -> Result<FormulaAnswers, RefusedFormulas>
-    ensures answered { IfOk result (λ made.
-        AreItemsAnswered explain formulas.now items.now made.exit made.text.items) }
-    ensures unmentioned { IfOk result (λ made. made.unmentioned.items ≡ []) }
+) -> Result<StreamAnswers, RefusedFormulas>
+    ensures answered { IfOk result (λ made. AreItemsAnswered explain formulas.now items.now
+        made.answers.exit made.answers.text.items made.automata) }
+    ensures unmentioned { IfOk result (λ made. made.answers.unmentioned.items ≡ []) }
     ensures refused { IfErr result (AreItemsRefused explain formulas.now items.now) }
 {
     let mut exit = Exit::Done;
@@ -85,11 +88,13 @@ fn answers_for_items(
             Err(refused) => return Err(refused),
         }
     }
-    Ok(FormulaAnswers {
+    let answers = FormulaAnswers {
         exit,
         text,
         unmentioned: Vec::new(alloc),
-    })
+    };
+    let automata = count_automata(items);
+    Ok(StreamAnswers { answers, automata })
 }
 
 /// Appends the answers to `formulas` for `item`, and returns how the program ends after these alone. Fails with the

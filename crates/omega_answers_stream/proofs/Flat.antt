@@ -38,7 +38,7 @@ module _ (Answers : ℕ → Item → Answer → Type 0) (Refuses : Item → Refu
       items = asks.items;
       read = asks.read;
       refused =
-          subst (λ refused. MatchOption refused (AreAnswered Answers asks.items asked.answers.text.items asked.answers.no) (IsItemRefused Answers Refuses asks.items))
+          subst (λ refused. MatchOption refused (AreAnswered Answers asks.items asked.answers.text.items asked.answers.no asked.answers.automata) (IsItemRefused Answers Refuses asks.items))
           is asks.asks;
     }
 

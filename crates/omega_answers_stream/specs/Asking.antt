@@ -5,6 +5,7 @@ use Rattle.omega_text.specs.declared.refusal.Refusal.TheVariants.{Io}
 use Rattle.omega_hoa.specs.Stream.{IsStreamRefusal, IsStreamText}
 use Rattle.omega_hoa.specs.declared.item.Item.{Item}
 use Rattle.omega_answers_stream.specs.Answer.{Answer}
+use Rattle.omega_answers_stream.specs.Counting.{automata_in}
 use Rattle.omega_answers_stream.specs.declared.asked.Asked.{Asked}
 
 -- the texts of answers, one after the other
@@ -25,13 +26,15 @@ AreAnswers Answers number (item ∷ items) [] = ⊥
 AreAnswers Answers number (item ∷ items) (answer ∷ answers) =
     Answers number item answer × AreAnswers Answers (number + 1) items answers
 
--- the items, numbered from 0, have answers with these texts, and `no` is whether one of them is `no`
+-- the items, numbered from 0, have answers with these texts, `no` is whether one of them is `no`, and so many of the
+-- items are automata
 pub record AreAnswered (Answers : ℕ → Item → Answer → Type 0) (items : List Item) (text : List ℕ)
-    (no : Bool) : Type 0 where
+    (no : Bool) (automata : ℕ) : Type 0 where
   pub answers : List Answer
   pub each : AreAnswers Answers 0 items answers
   pub texts : text ≡ answer_texts answers
   pub any : no ≡ any_no answers
+  pub counted : automata ≡ automata_in items
 
 -- one of the items is refused, and those before it have answers
 pub record IsItemRefused (Answers : ℕ → Item → Answer → Type 0) (Refuses : Item → Refusal → Type 0)
@@ -49,8 +52,8 @@ pub record IsItemRefused (Answers : ℕ → Item → Answer → Type 0) (Refuses
 abbrev pub AreAsked : (ℕ → Item → Answer → Type 0) → (Item → Refusal → Type 0)
     → List Item → Asked → Type 0
 AreAsked Answers Refuses items asked =
-    MatchOption asked.refused (AreAnswered Answers items asked.answers.text.items asked.answers.no)
-    (IsItemRefused Answers Refuses items)
+    MatchOption asked.refused (AreAnswered Answers items asked.answers.text.items asked.answers.no
+    asked.answers.automata) (IsItemRefused Answers Refuses items)
 
 -- the source is the text of a stream whose items are asked so
 pub record IsAsked (Answers : ℕ → Item → Answer → Type 0) (Refuses : Item → Refusal → Type 0)
@@ -59,12 +62,12 @@ pub record IsAsked (Answers : ℕ → Item → Answer → Type 0) (Refuses : Ite
   pub read : IsStreamText source items
   pub asks : AreAsked Answers Refuses items asked
 
--- the source is the text of a stream whose items have answers with these texts
+-- the source is the text of a stream whose items have answers with these texts, and so many of them are automata
 pub record IsAnswered (Answers : ℕ → Item → Answer → Type 0) (source text : List ℕ)
-    (no : Bool) : Type 0 where
+    (no : Bool) (automata : ℕ) : Type 0 where
   pub items : List Item
   pub read : IsStreamText source items
-  pub answered : AreAnswered Answers items text no
+  pub answered : AreAnswered Answers items text no automata
 
 -- the source is the text of a stream, and one of its items is refused
 pub record RefusesItem (Answers : ℕ → Item → Answer → Type 0) (Refuses : Item → Refusal → Type 0)

@@ -2,6 +2,7 @@
 -- What contracts of reading streams cite, and in `private` what private contracts alone cite.
 pub mod Canon
 pub mod Check
+pub mod Counting
 pub mod Refusing
 pub mod Show
 pub mod ShowJson

@@ -5,4 +5,6 @@ pub struct Answers {
     pub text: Vec<u8>,
     /// Whether one of them is `no`.
     pub no: bool,
+    /// The number of automata among the items. An aborted segment is none.
+    pub automata: usize,
 }

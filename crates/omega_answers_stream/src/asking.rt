@@ -6,6 +6,7 @@ ghost use Rattle.omega_answers_stream.specs.private.steps.Question.{AreAskedBy};
 
 use crate::answers::Answers;
 use crate::asked::Asked;
+use crate::counting::count_with;
 use crate::item_question::ItemQuestion;
 use omega_hoa::{Item, Stream};
 use omega_text::{HoaKind, Refusal, TokenKind};
@@ -33,6 +34,7 @@ pub(crate) fn begin<Q: ItemQuestion>(alloc: Global, _question: &Q) -> Asking
             answers: Answers {
                 text: Vec::new(alloc),
                 no: false,
+                automata: 0,
             },
             refused: None,
         },
@@ -101,6 +103,7 @@ fn ask_item<Q: ItemQuestion>(
     item: &Item,
     asked: &mut Asked,
 ) -> Result<(), Refusal>
+    requires { number + 1 < 2 ^ 64 }
     ensures asked { OnOk result
         (AsksMore (AreAskedBy Q.ItemQuestion question.now) number (item.now ∷ []) asked.old asked.new) }
     ensures memory { IsOkUnless result Refusal.Memory }
@@ -111,6 +114,7 @@ fn ask_item<Q: ItemQuestion>(
     match question.append(alloc, number, item, &mut asked.answers.text) {
         Ok(no) => {
             asked.answers.no |= no;
+            asked.answers.automata = count_with(asked.answers.automata, item);
             Ok(())
         }
         Err(refusal) => match refusal {

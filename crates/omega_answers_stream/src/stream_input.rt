@@ -26,7 +26,8 @@ pub fn ask_stream<Q: ItemQuestion, R: Input>(
 ) -> Result<Answers, Refusal>
     requires { R.failed input.old < 2 ^ 64 - 1 }
     ensures answered { IfOk result (λ answers. ReadsWholeFrom R.Input input.old input.new
-        (λ text. IsAnswered (Q.answers question.now) text answers.text.items answers.no)) }
+        (λ text. IsAnswered (Q.answers question.now) text answers.text.items answers.no
+        answers.automata)) }
     ensures refused { IfErr result
         (or_memory (or_io (λ refusal. ReadsTextFrom R.Input input.old input.new
         (λ text. IsAskingRefusal (Q.answers question.now) (Q.refuses question.now) text refusal)))) }

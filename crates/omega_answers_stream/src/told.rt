@@ -40,7 +40,11 @@ fn text_of(asked: Asked) -> Vec<u8>
     ensures { result ≡ asked.answers.text }
 {
     let Asked {
-        answers: Answers { text, no: _ },
+        answers: Answers {
+            text,
+            no: _,
+            automata: _,
+        },
         refused: _,
     } = asked;
     text

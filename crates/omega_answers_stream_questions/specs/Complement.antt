@@ -13,8 +13,9 @@ use Rattle.omega_answers_stream_questions.specs.Items.{AnswersItem, RefusesAutom
 abbrev pub IsComplementedAnswer : Description → Answer → Type 0
 IsComplementedAnswer automaton answer = IsComplementText automaton answer.text × (answer.no ≡ false)
 
--- the answers of `complement --stream`, one after the other
-abbrev pub AreComplementAnswers : List ℕ → List ℕ → Bool → Type 0
+-- the answers of `complement --stream` for so many automata, one after the other
+abbrev pub AreComplementAnswers : List ℕ → (output : List ℕ) → (no : Bool)
+    → (automata : ℕ) → Type 0
 AreComplementAnswers text = IsAnswered (AnswersItem IsComplementedAnswer nothing_written) text
 
 -- the refusal of `complement --stream`: that of the text, or else that of the first automaton that is refused

@@ -24,13 +24,14 @@ abbrev pub IsContainedAnswer : (file : Description) (explain : Bool) → Descrip
 IsContainedAnswer file explain automaton answer =
     IsContainmentVerdict automaton file explain (exit_for answer.no) answer.text
 
--- the answers of `contained --stream`, one after the other: the text of the file is that of an automaton
+-- the answers of `contained --stream` for so many automata, one after the other: the text of the file is that of an
+-- automaton
 pub record AreContainedAnswers (file text : List ℕ) (explain : Bool) (output : List ℕ)
-    (no : Bool) : Type 0 where
+    (no : Bool) (automata : ℕ) : Type 0 where
   pub automaton : Description
   pub file_read : IsAutomatonText file automaton
   pub answered : IsAnswered
-      (AnswersItem (IsContainedAnswer automaton explain) aborted_line) text output no
+      (AnswersItem (IsContainedAnswer automaton explain) aborted_line) text output no automata
 
 -- the text of the file is that of an automaton, and the text of the stream is refused
 pub record IsStreamRefused (file text : List ℕ) (refusal : Refusal) : Type 0 where

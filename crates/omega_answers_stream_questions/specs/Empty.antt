@@ -21,8 +21,9 @@ abbrev pub IsLiftingAnswer : (budget : ℕ) (lines : Lines) → Description → 
 IsLiftingAnswer budget lines automaton answer =
     EndsDecision automaton budget lines true (exit_for answer.no) answer.text
 
--- the answers of `empty --search --stream`, one after the other
-abbrev pub AreSearchAnswers : List ℕ → (lines : Lines) → List ℕ → Bool → Type 0
+-- the answers of `empty --search --stream` for so many automata, one after the other
+abbrev pub AreSearchAnswers : List ℕ → (lines : Lines) → (output : List ℕ) → (no : Bool)
+    → (automata : ℕ) → Type 0
 AreSearchAnswers text lines = IsAnswered (AnswersItem (IsSearchAnswer lines) aborted_line) text
 
 -- the refusal of `empty --search --stream`: that of the text, or else that of the first automaton that is refused
@@ -30,8 +31,9 @@ abbrev pub IsSearchStreamRefusal : List ℕ → (lines : Lines) → Refusal → 
 IsSearchStreamRefusal text lines = IsAskingRefusal (AnswersItem (IsSearchAnswer lines) aborted_line)
     (RefusesAutomaton IsSearchRefusal) text
 
--- the answers of `empty --stream` with a budget for each automaton, one after the other
-abbrev pub AreLiftingAnswers : List ℕ → (budget : ℕ) (lines : Lines) → List ℕ → Bool → Type 0
+-- the answers of `empty --stream` with a budget for each of so many automata, one after the other
+abbrev pub AreLiftingAnswers : List ℕ → (budget : ℕ) (lines : Lines) → (output : List ℕ) → (no : Bool)
+    → (automata : ℕ) → Type 0
 AreLiftingAnswers text budget lines =
     IsAnswered (AnswersItem (IsLiftingAnswer budget lines) aborted_line) text
 

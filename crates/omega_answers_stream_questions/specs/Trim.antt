@@ -13,8 +13,9 @@ use Rattle.omega_answers_stream_questions.specs.Items.{AnswersItem, RefusesAutom
 abbrev pub IsTrimmedAnswer : Description → Answer → Type 0
 IsTrimmedAnswer automaton answer = IsTrimText automaton answer.text × (answer.no ≡ false)
 
--- the answers of `trim --stream`, one after the other
-abbrev pub AreTrimAnswers : List ℕ → List ℕ → Bool → Type 0
+-- the answers of `trim --stream` for so many automata, one after the other
+abbrev pub AreTrimAnswers : List ℕ → (output : List ℕ) → (no : Bool)
+    → (automata : ℕ) → Type 0
 AreTrimAnswers text = IsAnswered (AnswersItem IsTrimmedAnswer nothing_written) text
 
 -- the refusal of `trim --stream`: that of the text, or else that of the first automaton that is refused

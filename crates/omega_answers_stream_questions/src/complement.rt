@@ -26,7 +26,8 @@ use std::alloc::Global;
 pub fn complement_stream<R: Input>(alloc: Global, input: &mut R) -> Result<Answers, Refusal>
     requires { R.failed input.old < 2 ^ 64 - 1 }
     ensures answers { IfOk result (λ answers. ReadsWhole (R.remaining input.old)
-        (R.remaining input.new) (λ text. AreComplementAnswers text answers.text.items answers.no)) }
+        (R.remaining input.new) (λ text. AreComplementAnswers text answers.text.items answers.no
+        answers.automata)) }
     ensures refused { IfErr result (or_memory (or_io (λ refusal. ReadsText (R.remaining input.old)
         (R.remaining input.new) (λ text. IsComplementStreamRefusal text refusal)))) }
     ensures counted { R.failed input.new ≡ R.failed input.old + failures_of result }

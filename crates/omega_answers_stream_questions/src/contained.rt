@@ -39,7 +39,8 @@ pub fn contained_stream<R: Input>(
     requires { R.failed input.old < 2 ^ 64 - 1 }
     ensures answers { IfOk result
         (λ answers. ReadsWhole (R.remaining input.old) (R.remaining input.new)
-        (λ text. AreContainedAnswers file.now text explain answers.text.items answers.no)) }
+        (λ text. AreContainedAnswers file.now text explain answers.text.items answers.no
+        answers.automata)) }
     ensures refused { IfErr result (IsContainedStreamRefused file.now explain
         (R.remaining input.old) (R.remaining input.new)) }
     ensures counted { R.failed input.new ≡ R.failed input.old + failures_of result }
@@ -62,7 +63,7 @@ fn contained_in<R: Input>(
     ensures answered { IfOk result
         (λ answers. ReadsWhole (R.remaining input.old) (R.remaining input.new)
         (λ text. IsAnswered (AnswersItem (IsContainedAnswer file.now explain) aborted_line) text
-        answers.text.items answers.no)) }
+        answers.text.items answers.no answers.automata)) }
     ensures refused { (text : List ℕ) → IsAutomatonText text file.now → IfErr result
         (IsContainedStreamRefused text explain (R.remaining input.old) (R.remaining input.new)) }
     ensures counted { R.failed input.new ≡ R.failed input.old + failures_of result }

@@ -37,7 +37,8 @@ pub fn empty_stream_by_lifting<R: Input>(
     requires budget { budget ≤ most_lifts }
     ensures answers { IfOk result
         (λ answers. ReadsWhole (R.remaining input.old) (R.remaining input.new)
-        (λ text. AreLiftingAnswers text budget lines answers.text.items answers.no)) }
+        (λ text. AreLiftingAnswers text budget lines answers.text.items answers.no
+        answers.automata)) }
     ensures refused { IfErr result (or_memory (or_io (λ refusal.
         ReadsText (R.remaining input.old) (R.remaining input.new)
         (λ text. IsLiftingStreamRefusal text budget lines refusal)))) }

@@ -32,7 +32,8 @@ pub fn empty_stream_by_search<R: Input>(
     requires { R.failed input.old < 2 ^ 64 - 1 }
     ensures answers { IfOk result
         (λ answers. ReadsWhole (R.remaining input.old) (R.remaining input.new)
-        (λ text. AreSearchAnswers text lines answers.text.items answers.no)) }
+        (λ text. AreSearchAnswers text lines answers.text.items answers.no
+        answers.automata)) }
     ensures refused { IfErr result (or_memory (or_io (λ refusal. ReadsText (R.remaining input.old)
         (R.remaining input.new) (λ text. IsSearchStreamRefusal text lines refusal)))) }
     ensures counted { R.failed input.new ≡ R.failed input.old + failures_of result }

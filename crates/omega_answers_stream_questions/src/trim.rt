@@ -25,7 +25,8 @@ use std::alloc::Global;
 pub fn trim_stream<R: Input>(alloc: Global, input: &mut R) -> Result<Answers, Refusal>
     requires { R.failed input.old < 2 ^ 64 - 1 }
     ensures answers { IfOk result (λ answers. ReadsWhole (R.remaining input.old)
-        (R.remaining input.new) (λ text. AreTrimAnswers text answers.text.items answers.no)) }
+        (R.remaining input.new) (λ text. AreTrimAnswers text answers.text.items answers.no
+        answers.automata)) }
     ensures refused { IfErr result (or_memory (or_io (λ refusal. ReadsText (R.remaining input.old)
         (R.remaining input.new) (λ text. IsTrimStreamRefusal text refusal)))) }
     ensures counted { R.failed input.new ≡ R.failed input.old + failures_of result }

@@ -4,7 +4,7 @@ use Rattle.std.proofs.lemmas.List.{append-nil}
 use Rattle.clap.specs.Words.{App, Rule, with_rule}
 use Rattle.omega_cli.specs.private.building.Building.{shape_for, with_rules}
 use Rattle.omega_cli_command.specs.declared.subcommand.Subcommand.{Subcommand}
-use Rattle.omega_cli_command.specs.declared.subcommand.Subcommand.TheVariants.{Accepts, Canon, Check, Complement, Contained, Draw, Empty, Equal, Game, Join, Ltl, Meet, Realize, Satisfies, Show, Solve, Trim, Verify}
+use Rattle.omega_cli_command.specs.declared.subcommand.Subcommand.TheVariants.{Accepts, Automaton, Canon, Check, Complement, Contained, Draw, Empty, Equal, Game, Join, Ltl, Meet, Realize, Satisfies, Show, Solve, Trim, Verify}
 
 -- what holds of the value is said in other words
 pub if_ok_wider : {T E : Type 0} (result : Result T E) (Holds Others : T → Type 0) → ((value : T) → Holds value → Others value)
@@ -28,6 +28,7 @@ is_plain Solve = refl
 is_plain Verify = refl
 is_plain Empty = refl
 is_plain Game = refl
+is_plain Automaton = refl
 is_plain Accepts = refl
 is_plain Contained = refl
 is_plain Equal = refl

@@ -1,5 +1,5 @@
 -- The texts of the formulas that `clap` found.
-use Rattle.std.proofs.Common.{◌≡◌, List, [], ◌∷◌, Option, None, Some, option_map, refl, slice_get, unwrap_or}
+use Rattle.std.proofs.Common.{◌≡◌, List, [], Option, None, Some, option_map, refl, slice_get, unwrap_or}
 use Rattle.std.specs.Prelude.{find, option_and_then}
 use Rattle.std.specs.Str.{bytes_eq}
 use Rattle.clap.specs.Words.{Row, first_of}

@@ -67,12 +67,13 @@ show = with_options (codes "show") (optional (codes "format") ∷ flag (codes "j
     ∷ flag (codes "lenient") ∷ verbose ∷ operand (codes "file") ∷ [])
 
 abbrev pub check : Shape
-check = with_options (codes "check")
-    (optional (codes "format") ∷ flag (codes "lenient") ∷ verbose ∷ operand (codes "file") ∷ [])
+check = with_options (codes "check") (optional (codes "format") ∷ optional (codes "at-least")
+    ∷ flag (codes "lenient") ∷ verbose ∷ operand (codes "file") ∷ [])
 
 abbrev pub canon : Shape
 canon = with_options (codes "canon") (optional (codes "format") ∷ optional (codes "from")
-    ∷ flag (codes "min") ∷ flag (codes "lenient") ∷ verbose ∷ operand (codes "file") ∷ [])
+    ∷ flag (codes "min") ∷ flag (codes "binary") ∷ flag (codes "lenient") ∷ verbose
+    ∷ operand (codes "file") ∷ [])
 
 abbrev pub solve : Shape
 solve = with_options (codes "solve") (optional (codes "player") ∷ optional (codes "from")
@@ -92,11 +93,14 @@ verify = with_options (codes "verify")
 abbrev pub empty : Shape
 empty =
     with_options (codes "empty") (flag (codes "search") ∷ flag (codes "word") ∷ flag (codes "names")
-    ∷ flag (codes "status") ∷ flag (codes "stream") ∷ optional (codes "budget")
-    ∷ flag (codes "progress") ∷ verbose ∷ operand (codes "file") ∷ [])
+    ∷ flag (codes "status") ∷ flag (codes "stream") ∷ optional (codes "at-least")
+    ∷ optional (codes "budget") ∷ flag (codes "progress") ∷ verbose ∷ operand (codes "file") ∷ [])
 
 abbrev pub game : Shape
 game = with_options (codes "game") (verbose ∷ operand (codes "file") ∷ [])
+
+abbrev pub automaton : Shape
+automaton = with_options (codes "automaton") (verbose ∷ operand (codes "file") ∷ [])
 
 abbrev pub accepts : Shape
 accepts = with_options (codes "accepts") (required_as (codes "word") (codes "word-text")
@@ -104,7 +108,7 @@ accepts = with_options (codes "accepts") (required_as (codes "word") (codes "wor
 
 abbrev pub contained : Shape
 contained = with_options (codes "contained") (required (codes "in") ∷ flag (codes "explain")
-    ∷ flag (codes "stream") ∷ verbose ∷ operand (codes "file") ∷ [])
+    ∷ flag (codes "stream") ∷ optional (codes "at-least") ∷ verbose ∷ operand (codes "file") ∷ [])
 
 abbrev pub equal : Shape
 equal = with_options (codes "equal") (optional (codes "to") ∷ optional_repeated 102 (codes "formula")
@@ -113,7 +117,7 @@ equal = with_options (codes "equal") (optional (codes "to") ∷ optional_repeate
 abbrev pub satisfies : Shape
 satisfies = with_options (codes "satisfies") (required_repeated 102 (codes "formula")
     ∷ optional_as (codes "word") (codes "word-text") ∷ flag (codes "explain")
-    ∷ flag (codes "stream") ∷ verbose ∷ operand (codes "file") ∷ [])
+    ∷ flag (codes "stream") ∷ optional (codes "at-least") ∷ verbose ∷ operand (codes "file") ∷ [])
 
 abbrev pub meet : Shape
 meet = with_options (codes "meet")
@@ -124,10 +128,11 @@ join = with_options (codes "join") (required (codes "with") ∷ verbose ∷ oper
 
 abbrev pub complement : Shape
 complement = with_options (codes "complement")
-    (flag (codes "stream") ∷ verbose ∷ operand (codes "file") ∷ [])
+    (flag (codes "stream") ∷ optional (codes "at-least") ∷ verbose ∷ operand (codes "file") ∷ [])
 
 abbrev pub trim : Shape
-trim = with_options (codes "trim") (flag (codes "stream") ∷ verbose ∷ operand (codes "file") ∷ [])
+trim = with_options (codes "trim")
+    (flag (codes "stream") ∷ optional (codes "at-least") ∷ verbose ∷ operand (codes "file") ∷ [])
 
 abbrev pub ltl : Shape
 ltl = with_options (codes "ltl") (optional_lettered 102 (codes "formula") ∷ flag (codes "negated")
@@ -136,8 +141,9 @@ ltl = with_options (codes "ltl") (optional_lettered 102 (codes "formula") ∷ fl
 abbrev pub realize : Shape
 realize = with_options (codes "realize")
     (optional_lettered 102 (codes "formula") ∷ optional (codes "outs") ∷ optional (codes "ins")
-    ∷ flag (codes "controller") ∷ named (codes "game") (codes "as-game") ∷ flag (codes "lift")
-    ∷ optional (codes "budget") ∷ flag (codes "progress") ∷ verbose ∷ operand (codes "file") ∷ [])
+    ∷ flag (codes "controller") ∷ flag (codes "aiger") ∷ flag (codes "binary")
+    ∷ named (codes "game") (codes "as-game") ∷ flag (codes "lift") ∷ optional (codes "budget")
+    ∷ flag (codes "progress") ∷ verbose ∷ operand (codes "file") ∷ [])
 
 abbrev pub draw : Shape
 draw = with_options (codes "draw")
@@ -152,6 +158,6 @@ abbrev pub program : App
 program = record {
   top = record (new_shape (codes "omega"))
       { is_leaf = false; has_version = true; subcommand_required = true };
-  subs = show ∷ check ∷ canon ∷ solve ∷ verify ∷ empty ∷ game ∷ accepts ∷ contained ∷ equal
-      ∷ satisfies ∷ meet ∷ join ∷ complement ∷ trim ∷ ltl ∷ realize ∷ draw ∷ [];
+  subs = show ∷ check ∷ canon ∷ solve ∷ verify ∷ empty ∷ game ∷ automaton ∷ accepts ∷ contained
+      ∷ equal ∷ satisfies ∷ meet ∷ join ∷ complement ∷ trim ∷ ltl ∷ realize ∷ draw ∷ [];
 }

@@ -9,8 +9,8 @@ use std::alloc::{AllocError, Global};
 
 const DETAILS: &str = "\
 Use it to compare texts, or to bring one into a fixed layout. It reads FILE, or standard input if there is
-no FILE or it is -, and writes the canonical text of the game, or of the automata. Two texts stand for
-the same game, or the same automata, exactly if their canonical texts are the same.
+no FILE or it is -, and writes the canonical text of the game, of the automata, or of the circuit. Two
+texts stand for the same game, or the same automata, exactly if their canonical texts are the same.
 
 --format pg writes a game: a header with the greatest identifier, then a line for each node in rising
 order of identifiers.
@@ -59,16 +59,31 @@ written.
   [(0|t)&0] 0
   --END--
 
+--format aiger writes a circuit in ASCII. Its inputs, latches and outputs stay in their order, and so do
+their names. The variables are numbered anew: those of the inputs come first, then those of the latches,
+and then those of the gates, each gate after those that it uses. It means the same as the circuit that is
+read. With --binary it is written in binary, in which the gates take few bytes.
+
+  $ printf 'aag 9 1 0 1 2\\n18\\n4\\n4 8 18\\n8 18 18\\n' | omega canon --format aiger
+  aag 3 1 0 1 2
+  2
+  6
+  4 2 2
+  6 4 2
+
 --lenient reads a game as other tools write it. Comments, from `//` or `#` to the end of the line or
 between `/*` and `*/`, and `start N;` are passed over, the last `;` may be missing, and names may have any
 bytes. A node without successors loses for its owner. docs/formats.md, *The lenient game text*, has the
 rules. --lenient goes with --format pg only, which may then be left out.
 
-If --format is left out, the first token of FILE says what is read: automata begin with `HOA:`, and all
-else is read as a game. Without a FILE, or with --from or --min, --format has to be given.
+If --format is left out, --from, --min and --binary say it, each of which goes with one format only.
+Without them the beginning of FILE says what is read: automata begin with `HOA:`, a circuit with `aag ` or
+`aig `, and all else is read as a game. Without a FILE and without such an option, --format has to be
+given.
 
 If a text is refused, nothing is written on standard output, and a line on standard error says why.
-`omega check --help` lists the refusals of both formats.
+`omega check --help` lists the refusals of all formats. If the canonical text of a circuit would have over
+16777216 bytes, the refusal is 4 TooLong.
 
 Exit status: 0 done, 1 the text or the task is refused, 2 the command line is wrong, 4 out of memory, 5
 a read or a write failed.";
@@ -85,6 +100,11 @@ const OPTIONS: &[OptionHelp] = &[
         value: Value::None,
         help: "Read a game in which the least priority decides, and write one in which the greatest does",
     },
+    OptionHelp {
+        name: "binary",
+        value: Value::None,
+        help: "Write a circuit in binary, and not in ASCII",
+    },
     LENIENT,
     VERBOSE,
     FILE,
@@ -94,6 +114,6 @@ const OPTIONS: &[OptionHelp] = &[
 pub fn canon_command<'a>(alloc: Global) -> Result<Command<'a>, AllocError>
     ensures { IfOk result (λ command. shape_of command ≡ canon) }
 {
-    let about = "Write a game, or automata, in canonical form";
+    let about = "Write a game, automata or a circuit in canonical form";
     subcommand(alloc, "canon", about, DETAILS, OPTIONS)
 }

@@ -2,7 +2,7 @@ ghost use Rattle.std.specs.Prelude.{◌≡◌, IfOk};
 ghost use Rattle.omega_cli.specs.Program.{complement};
 ghost use Rattle.clap.specs.Words.{shape_of};
 
-use crate::options::{FILE, OptionHelp, STREAM, VERBOSE};
+use crate::options::{AT_LEAST, FILE, OptionHelp, STREAM, VERBOSE};
 use crate::subcommand::subcommand;
 use clap::Command;
 use std::alloc::{AllocError, Global};
@@ -49,7 +49,8 @@ start. That an automaton accepts the same words as a deterministic one is not en
 
 --stream reads automata, one after the other, and writes the complement of each in turn. What is stopped
 by --ABORT-- is left out. If there is no automaton, nothing is written. If one of them is refused,
-nothing is written but the line of the refusal.
+nothing is written but the line of the refusal. With --at-least N the exit status is 6 if there are fewer
+than N automata, without those that are stopped.
 
   $ echo 'HOA: v1 Acceptance: 0 f --BODY-- --END-- HOA: v1 --ABORT--
     HOA: v1 Start: 0 Acceptance: 0 t --BODY-- State: 0 [t] 0 --END--' |
@@ -66,9 +67,9 @@ complement could have over 1048576 states or 8388608 edges, or would be over ano
 steps do not decide whether they can hold.
 
 Exit status: 0 done, 1 the text or the task is refused, 2 the command line is wrong, 4 out of memory, 5
-a read or a write failed.";
+a read or a write failed, 6 there are fewer automata than --at-least says.";
 
-const OPTIONS: &[OptionHelp] = &[STREAM, VERBOSE, FILE];
+const OPTIONS: &[OptionHelp] = &[STREAM, AT_LEAST, VERBOSE, FILE];
 
 /// Returns the subcommand that writes the complement of a deterministic automaton.
 pub fn complement_command<'a>(alloc: Global) -> Result<Command<'a>, AllocError>

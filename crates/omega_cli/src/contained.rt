@@ -2,7 +2,7 @@ ghost use Rattle.std.specs.Prelude.{◌≡◌, IfOk};
 ghost use Rattle.omega_cli.specs.Program.{contained};
 ghost use Rattle.clap.specs.Words.{shape_of};
 
-use crate::options::{FILE, OptionHelp, STREAM, VERBOSE, Value};
+use crate::options::{AT_LEAST, FILE, OptionHelp, STREAM, VERBOSE, Value};
 use crate::subcommand::subcommand;
 use clap::Command;
 use std::alloc::{AllocError, Global};
@@ -32,7 +32,8 @@ its edge does, and more: the automaton in FILE accepts each word that fits, and 
 
 --stream reads automata from FILE, one after the other, and writes the answer for each in turn, each with
 the same other automaton. For an automaton that is stopped by --ABORT-- it writes the line `aborted`. If
-there is no automaton, nothing is written. The exit status is 6 if one of the answers is `no`. If one of
+there is no automaton, nothing is written. The exit status is 6 if one of the answers is `no`, or if there
+are fewer than N automata with --at-least N, for which one that is stopped by --ABORT-- is none. If one of
 the automata is refused, nothing is written but the line of the refusal.
 
   $ echo 'HOA: v1 --ABORT-- HOA: v1 Start: 0 AP: 1 \"grant\" Acceptance: 0 t
@@ -40,6 +41,12 @@ the automata is refused, nothing is written but the line of the refusal.
   aborted
   yes
   no
+
+A script that goes on if each automaton keeps the rule asks for one at least, so that it does not go on
+where a program wrote none:
+
+  $ omega contained --in often.hoa --stream --at-least 1 < /dev/null; echo $?
+  6
 
 Propositions are joined by name. A proposition that only one of the two automata has is free in the
 other, so a misspelt name makes no fault. `omega complement`, `omega meet` and `omega empty` answer the
@@ -55,7 +62,7 @@ can't be read is refused as 61 Io, and with --verbose another line has its name.
 standard input.
 
 Exit status: 0 yes, 1 a text or the task is refused, 2 the command line is wrong, 4 out of memory, 5 a
-read or a write failed, 6 no, or with --stream, one `no`.";
+read or a write failed, 6 no, or with --stream, one `no`, or fewer automata than --at-least says.";
 
 const OPTIONS: &[OptionHelp] = &[
     OptionHelp {
@@ -69,6 +76,7 @@ const OPTIONS: &[OptionHelp] = &[
         help: "Write after `no` a word that only the automaton in FILE accepts",
     },
     STREAM,
+    AT_LEAST,
     VERBOSE,
     FILE,
 ];

@@ -65,9 +65,10 @@ with --format pg only, which may then be left out.
 --solution, --walk, --legend, --from and --depth go with --format pg only, --legend with --solution or
 --walk only, --depth with --from only, and --lasso with --format hoa only.
 
-If --format is left out, and with it all options that go with one format only, the first token of FILE
-says what is drawn: an automaton begins with `HOA:`, and all else is read as a game. Without a FILE,
---format has to be given.
+If --format is left out, an option that goes with one format only says it. Without such an option the
+first token of FILE says what is drawn: an automaton begins with `HOA:`, and all else is read as a game.
+Without a FILE too, --format has to be given. A circuit is not drawn, and --format aiger is a fault, but
+`omega automaton` makes an automaton of a circuit.
 
 Faults of the text come first; `omega check --help` lists them. A text with --ABORT--, with no automaton
 or with several is not one automaton, and is refused as 3 Syntax. Faults of a game, 54 behind them, come

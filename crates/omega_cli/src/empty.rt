@@ -2,7 +2,7 @@ ghost use Rattle.std.specs.Prelude.{◌≡◌, IfOk};
 ghost use Rattle.omega_cli.specs.Program.{empty};
 ghost use Rattle.clap.specs.Words.{shape_of};
 
-use crate::options::{BUDGET, FILE, OptionHelp, PROGRESS, STREAM, VERBOSE, Value, WORD};
+use crate::options::{AT_LEAST, BUDGET, FILE, OptionHelp, PROGRESS, STREAM, VERBOSE, Value, WORD};
 use crate::subcommand::subcommand;
 use clap::Command;
 use std::alloc::{AllocError, Global};
@@ -60,8 +60,9 @@ that a script needs no text. Without it the exit status is 0 after both.
 --stream reads automata, one after the other, and writes the answer for each in turn. For an automaton
 that is stopped by --ABORT-- it writes the line `aborted`. If there is no automaton, nothing is written.
 --budget N bounds the lifts for each automaton by itself. With --status the exit status is 6 if one of
-the automata accepts nothing, and else 0. If one of them is refused, nothing is written but the line of
-the refusal. --stream does not go with --progress.
+the automata accepts nothing, and with --at-least N if there are fewer than N of them, for which one that
+is stopped by --ABORT-- is none. Else it is 0. If one of them is refused, nothing is written but the line
+of the refusal. --stream does not go with --progress.
 
   $ echo 'HOA: v1 Acceptance: 0 f --BODY-- --END-- HOA: v1 --ABORT--
     HOA: v1 Start: 0 Acceptance: 0 t --BODY-- State: 0 [t] 0 --END--' | omega empty --search --stream
@@ -104,7 +105,7 @@ and 42 come in this order, then 50, and then 51; with --search 41, and then 42.
 
 Exit status: 0 done, 1 the text or the task is refused, 2 the command line is wrong, 3 the budget is
 used up, 4 out of memory, 5 a read or a write failed, 6 with --status, nothing is accepted, or with
---stream too, an automaton accepts nothing.";
+--stream too, an automaton accepts nothing; or there are fewer automata than --at-least says.";
 
 const OPTIONS: &[OptionHelp] = &[
     OptionHelp {
@@ -124,6 +125,7 @@ const OPTIONS: &[OptionHelp] = &[
         help: "End with status 0 if something is accepted, and with 6 if not",
     },
     STREAM,
+    AT_LEAST,
     BUDGET,
     PROGRESS,
     VERBOSE,

@@ -4,6 +4,7 @@
 #![tactic(auto)]
 
 mod accepts;
+mod automaton;
 mod canon;
 mod check;
 mod complement;

@@ -98,7 +98,7 @@ pub const VERBOSE: OptionHelp = OptionHelp {
 pub const FORMAT: OptionHelp = OptionHelp {
     name: "format",
     value: Value::Optional("FORMAT"),
-    help: "The kind of text: pg, a game in the text of PGSolver; hoa, omega-automata in the Hanoi format; of a FILE, its first token says it if --format is left out",
+    help: "The kind of text: pg, a game in the text of PGSolver; hoa, omega-automata in the Hanoi format; aiger, a circuit; if it is left out, an option of one format alone says it, or the beginning of a FILE",
 };
 
 /// The option that names the file of a game.
@@ -197,6 +197,13 @@ pub const STREAM: OptionHelp = OptionHelp {
     name: "stream",
     value: Value::None,
     help: "Answer for each automaton of a stream, one after the other",
+};
+
+/// The option that says how many automata a stream is to have at least.
+pub const AT_LEAST: OptionHelp = OptionHelp {
+    name: "at-least",
+    value: Value::Optional("N"),
+    help: "With --stream, end with status 6 if there are fewer than N automata, 0 to 2147483647",
 };
 
 /// The flag that asks for games to be read as other tools write them.

@@ -1,10 +1,11 @@
-ghost use Rattle.std.specs.Prelude.{◌≡◌, IfOk, map, string_bytes};
+ghost use Rattle.std.specs.Prelude.{◌≡◌, IfOk, map};
 ghost use Rattle.clap.specs.Words.{FailsBy, app_of, fault_of, shape_of};
 ghost use Rattle.clap.specs.Words.{subcommand_of, subcommand_rows_of, with_subcommand};
 ghost use Rattle.omega_cli.specs.Program.{program};
 ghost use Rattle.omega_cli.specs.private.building.Building.{shape_for, without_subcommands};
 
 use crate::accepts::accepts_command;
+use crate::automaton::automaton_command;
 use crate::canon::canon_command;
 use crate::check::check_command;
 use crate::complement::complement_command;
@@ -45,20 +46,32 @@ A text of the Hanoi format, version 1, holds omega-automata, one after the other
   --BODY-- State: 0 [0] 0 {0} [!0] 0 --END--
 
 Here one state has two edges to itself: one where a holds, which is in set 0, and one where it does not.
-A word is accepted if its run takes the first edge again and again. `omega show`, `check` and `canon`
-read both formats, and --format says which, or of a file its first token. `omega empty`, `omega game`,
+A word is accepted if its run takes the first edge again and again. `omega empty`, `omega game`,
 `omega accepts`, `omega satisfies`, `omega complement`, `omega trim` and `omega realize` read one
 automaton, `omega contained`, `omega equal`, `omega meet` and `omega join` read two, and `omega draw`
 draws one automaton or a game. `omega ltl` makes an automaton of a formula, and `omega realize -f` a
 controller. With --stream `omega empty`, `contained`, `satisfies`, `complement` and `trim` take automata
 one after the other.
 
+A text of the AIGER format, in ASCII or in binary, holds a circuit of and-gates and latches:
+
+  aag 1 1 0 1 0
+  2
+  2
+  i0 request
+  o0 grant
+
+Here the output grant is the input request. `omega realize --aiger` writes a controller as a circuit,
+`omega verify` judges one, and `omega automaton` makes an automaton of one. `omega show`, `check` and
+`canon` read all three formats, and --format says which. If it is left out, an option that goes with one
+format only says it, or the beginning of a file.
+
 A command reads the file that its last word names, as in `omega solve game.pg`. Without a name, or with
 -, it reads standard input. It writes its answer to standard output. If a text or the task is refused, a
 line on standard error says why, such as `omega: 3 Syntax at 0` for a text that is no game from its first
-byte on. Bytes are counted from 0. With --verbose, or -v, further lines say which text is refused if a
-command reads two, in which line and column the fault is or what is to be mended, and which file can't be
-read:
+byte on. Bytes are counted from 0. With --verbose, or -v, before or behind the command's name, further
+lines say which text is refused if a command reads two, in which line and column the fault is or what is
+to be mended, and which file can't be read:
 
   $ echo '0 0 0 1; 1 0 0 2;' | omega solve --verbose
   omega: 11 UndefinedSuccessor
@@ -72,23 +85,23 @@ Exit status:
   4  out of memory
   5  a read or a write failed
   6  the answer of `omega verify`, `accepts`, `contained`, `equal`, `satisfies`, `realize` or
-     `empty --status` is no
+     `empty --status` is no, or there are fewer automata than --at-least says
 
 `omega <COMMAND> --help` says more about a command.";
 
 /// Returns what `clap` finds in `words`, whose first is the program's name. If help or the version is requested, the
 /// error has the text.
-pub fn matches_of<'a>(alloc: Global, words: &'a [String]) -> Result<ArgMatches<'a>, Error>
+pub fn matches_of<'a>(alloc: Global, words: &'a [&'a str]) -> Result<ArgMatches<'a>, Error>
     ensures found { IfOk result (λ found.
-        subcommand_rows_of found ≡ subcommand_of program (map string_bytes words.now)) }
-    ensures kinds { FailsBy (fault_of program (map string_bytes words.now)) result }
+        subcommand_rows_of found ≡ subcommand_of program (map (λ word. word.now) words.now)) }
+    ensures kinds { FailsBy (fault_of program (map (λ word. word.now) words.now)) result }
 {
     let whole = whole_program(alloc)?;
     whole.try_get_matches_from(words)
 }
 
 /// The subcommands in the order in which help lists them.
-const SUBCOMMANDS: [Subcommand; 18] = [
+const SUBCOMMANDS: [Subcommand; 19] = [
     Subcommand::Show,
     Subcommand::Check,
     Subcommand::Canon,
@@ -96,6 +109,7 @@ const SUBCOMMANDS: [Subcommand; 18] = [
     Subcommand::Verify,
     Subcommand::Empty,
     Subcommand::Game,
+    Subcommand::Automaton,
     Subcommand::Accepts,
     Subcommand::Contained,
     Subcommand::Equal,
@@ -121,6 +135,7 @@ fn command_of<'a>(alloc: Global, subcommand: Subcommand) -> Result<Command<'a>, 
         Subcommand::Verify => verify_command(alloc),
         Subcommand::Empty => empty_command(alloc),
         Subcommand::Game => game_command(alloc),
+        Subcommand::Automaton => automaton_command(alloc),
         Subcommand::Accepts => accepts_command(alloc),
         Subcommand::Contained => contained_command(alloc),
         Subcommand::Equal => equal_command(alloc),
@@ -184,8 +199,8 @@ fn without_subcommands<'a>(alloc: Global) -> Result<Command<'a>, AllocError>
         .about(
             "Reads, checks, writes and draws parity games and omega-automata, solves games, says whether an \
              automaton accepts anything, verifies such answers, compares what automata accept, says whether they \
-             satisfy formulas, makes automata of formulas, forms products, unions and complements, trims automata, \
-             and finds controllers.",
+             satisfy formulas, makes automata of formulas and circuits, forms products, unions and complements, \
+             trims automata, and finds controllers, also as circuits.",
         )
         .version(VERSION)
         .after_help("`omega <COMMAND> --help` says more about a command.")

@@ -49,6 +49,21 @@ each state one letter of the environment, with which the labels of the state's e
 edges are all that answer the letter, and no cycle of them is accepted. If there are none, one edge leads
 back to the state, and its label is the letter. The exit status says which of the two is written.
 
+With --aiger a controller is written as a circuit in the AIGER format, in ASCII, or with --binary in
+binary, and `unrealizable` if there is none. Its inputs are the environment's propositions in the order of
+`AP:`, and its outputs the system's, each with its name. Its latches begin with 0.
+
+  $ omega realize --aiger arbiter.hoa
+  aag 1 1 0 1 0
+  2
+  2
+  i0 request
+  o0 grant
+
+In each state and at each letter the circuit follows one edge of the controller, and what the edge leaves
+open does not hold. The circuit is judged as `omega verify` judges it before it is written. If it is not
+right, which is a fault of the program, the refusal is 59 Unjudged.
+
 With --game nothing is decided, and the game in which it is decided is written in the format of PGSolver,
 as far as it is reached from the start. The system is player 0 and the environment player 1. A name says
 what a node is: a state, a class of letters that the same edges of a state answer, an edge, or the sink
@@ -63,13 +78,14 @@ player, such as `player 0: 67108864 lifts of at most 1099511627776`. The line ha
 far, and the bound or, if it is less, the budget.
 
 --budget and --progress go with --lift only, and --game goes neither with --controller nor with --lift.
+--aiger goes with none of these, and --binary with --aiger only.
 
 --formula, or -f, gives a formula of linear temporal logic in place of the automaton, written as for
 `omega ltl`. --outs lists the names of its propositions that the system controls, and --ins those that the
 environment controls, with commas between them; white space around a name is passed over, and an empty
 list has no name. One of the two is enough: all other names are the other player's. With both, each name
-of the formula has to stand in exactly one. Then the answers are as above, also with --controller and
---game.
+of the formula has to stand in exactly one. Then the answers are as above, also with --controller, --aiger
+and --game.
 
   $ omega realize -f 'G(request -> grant) & G !(grant & busy)' --outs grant
   unrealizable
@@ -95,6 +111,10 @@ these come, in this order:
 50 TooWide: lifting where the nodes times the priorities that lose for a player are over 67108864
 51 Budget: lifts that the budget does not allow
 
+With --aiger these come last: 78 Name if a name of a proposition is empty or has a line feed, 42 if the
+labels of a state mention over 12 propositions of the environment, and 55 TooLarge if the circuit would
+have over 16777216 variables, or if its judge passes a limit, as `omega verify` does.
+
 With -f the faults of the formula come first, those of `omega ltl --deterministic`. The refusal is
 58 Controllable if a name that is listed is none of the formula's, or if with both lists a name of the
 formula stands in both or in neither.
@@ -114,6 +134,16 @@ const OPTIONS: &[OptionHelp] = &[
         name: "controller",
         value: Value::None,
         help: "Write the winner's automaton: a controller, or a counter-strategy",
+    },
+    OptionHelp {
+        name: "aiger",
+        value: Value::None,
+        help: "Write a controller as a circuit in the AIGER format",
+    },
+    OptionHelp {
+        name: "binary",
+        value: Value::None,
+        help: "With --aiger, write the circuit in binary, and not in ASCII",
     },
     OptionHelp {
         name: "as-game",

@@ -2,7 +2,7 @@ ghost use Rattle.std.specs.Prelude.{◌≡◌, IfOk};
 ghost use Rattle.omega_cli.specs.Program.{satisfies};
 ghost use Rattle.clap.specs.Words.{shape_of};
 
-use crate::options::{FILE, OptionHelp, STREAM, VERBOSE, Value};
+use crate::options::{AT_LEAST, FILE, OptionHelp, STREAM, VERBOSE, Value};
 use crate::subcommand::subcommand;
 use clap::Command;
 use std::alloc::{AllocError, Global};
@@ -46,7 +46,8 @@ refused, or the task for one of the formulas, nothing is written but the lines o
 --stream reads automata from FILE, one after the other, and writes the answer for each in turn; of several
 formulas those for the first automaton, then those for the second, and so on. For an automaton that is
 stopped by --ABORT-- it writes the line `aborted` in place of each answer. If there is no automaton, nothing
-is written. The exit status is 6 if one of the answers is `no`. If one of the automata is refused, nothing
+is written. The exit status is 6 if one of the answers is `no`, or if there are fewer than N automata with
+--at-least N, for which one that is stopped by --ABORT-- is none. If one of the automata is refused, nothing
 is written but the lines of the refusal. --verbose names no propositions then.
 
   $ echo 'HOA: v1 --ABORT-- HOA: v1 Start: 0 AP: 1 \"grant\" Acceptance: 0 t
@@ -79,7 +80,8 @@ the refusals that come of no text alone `omega: at formula N`; the first has the
 can't be read is refused as 61 Io, and with --verbose another line has its name.
 
 Exit status: 0 yes, 1 a text or the task is refused, 2 the command line is wrong, 4 out of memory, 5 a
-read or a write failed, 6 no, or of several formulas or automata, one `no`.";
+read or a write failed, 6 no, or of several formulas or automata, one `no`, or fewer automata than
+--at-least says.";
 
 const OPTIONS: &[OptionHelp] = &[
     OptionHelp {
@@ -98,6 +100,7 @@ const OPTIONS: &[OptionHelp] = &[
         help: "Write after `no` a lasso of the automaton, and a word that does not satisfy FORMULA",
     },
     STREAM,
+    AT_LEAST,
     VERBOSE,
     FILE,
 ];

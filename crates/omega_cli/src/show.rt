@@ -8,8 +8,8 @@ use clap::Command;
 use std::alloc::{AllocError, Global};
 
 const DETAILS: &str = "\
-Use it to see how large a game or an automaton is, and how much work a game can take. It reads FILE, or
-standard input if there is no FILE or it is -.
+Use it to see how large a game, an automaton or a circuit is, and how much work a game can take. It reads
+FILE, or standard input if there is no FILE or it is -.
 
 --format pg reads a game. It writes one line with the game's size, and for each player one line with the
 bound: no run of `omega solve` for that player on this game makes more lifts. So a --budget of the bound
@@ -35,10 +35,16 @@ states, edges, propositions and sets it has, and its acceptance formula. An auto
   0 aborted
   1 automaton states 1 edges 1 propositions 0 sets 1 acceptance Inf(0)
 
---json writes the same as JSON, one value on a line: a line for the game, or one for each automaton. Of a
-game it says besides how many nodes have each priority, the greatest first, how many nodes are their own
-successors, and how many strongly connected components there are and nodes in the largest of them. A
-bound of 2^128 or more is null.
+--format aiger reads a circuit, and writes one line with the numbers of its inputs, latches, outputs and
+gates.
+
+  $ printf 'aag 1 1 0 1 0\\n2\\n2\\n' | omega show --format aiger
+  circuit inputs 1 latches 0 outputs 1 gates 0
+
+--json writes the same as JSON, one value on a line: a line for the game or the circuit, or one for each
+automaton. Of a game it says besides how many nodes have each priority, the greatest first, how many nodes
+are their own successors, and how many strongly connected components there are and nodes in the largest of
+them. A bound of 2^128 or more is null.
 
   $ omega show --format pg --json game.pg
   {\"nodes\":2,\"edges\":2,\"greatest\":1,\"priorities\":[[2,1],[1,1]],\"self_loops\":0,\"components\":1,\"largest\":2,\"bounds\":[4,4]}
@@ -52,11 +58,11 @@ between `/*` and `*/`, and `start N;` are passed over, the last `;` may be missi
 bytes. A node without successors loses for its owner. docs/formats.md, *The lenient game text*, has the
 rules. --lenient goes with --format pg only, which may then be left out.
 
-If --format is left out, the first token of FILE says what is read: automata begin with `HOA:`, and all
-else is read as a game. Without a FILE, --format has to be given.
+If --format is left out, the beginning of FILE says what is read: automata begin with `HOA:`, a circuit
+with `aag ` or `aig `, and all else is read as a game. Without a FILE, --format has to be given.
 
 If a text is refused, nothing is written on standard output, and a line on standard error says why.
-`omega check --help` lists the refusals of both formats.
+`omega check --help` lists the refusals of all formats.
 
 Exit status: 0 done, 1 the text is refused, 2 the command line is wrong, 4 out of memory, 5 a read or
 a write failed.";
@@ -77,6 +83,6 @@ const OPTIONS: &[OptionHelp] = &[
 pub fn show_command<'a>(alloc: Global) -> Result<Command<'a>, AllocError>
     ensures { IfOk result (λ command. shape_of command ≡ show) }
 {
-    let about = "Describe a game, its size and the bounds on lifts, or automata and their sizes";
+    let about = "Describe a game, its size and the bounds on lifts, or automata or a circuit";
     subcommand(alloc, "show", about, DETAILS, OPTIONS)
 }

@@ -11,10 +11,11 @@ use std::alloc::{AllocError, Global};
 
 const DETAILS: &str = "\
 Use it to check an answer, whoever made it: a solution of a game, a lasso of an automaton, or a
-controller or a counter-strategy for a specification. It reads the answer from FILE, or from standard
-input if there is no FILE or it is -, and the game, the automaton or the specification from the file that
---game, --automaton or --specification names; or it takes a formula from --formula, or -f. It writes `yes`
-if the answer is right, and `no` if not. One of the four has to be given, and no two of them.
+controller, also as a circuit, or a counter-strategy for a specification. It reads the answer from FILE,
+or from standard input if there is no FILE or it is -, and the game, the automaton or the specification
+from the file that --game, --automaton or --specification names; or it takes a formula from --formula, or
+-f. It writes `yes` if the answer is right, and `no` if not. One of the four has to be given, and no two
+of them.
 
 --game FILE checks a solution of the game in FILE. The solution is right if for each player the choices
 win from all the nodes that it gives to that player. The game is not solved: only the choices are
@@ -119,6 +120,22 @@ every letter of the environment, and the specification accepts each of its words
   $ omega realize --controller arbiter.hoa | omega verify --specification arbiter.hoa
   yes
 
+The controller may be a circuit in the AIGER format, in ASCII or in binary: a text that begins with `aag `
+or `aig `, also after a line `REALIZABLE`, is read as one. It is right if the specification accepts each
+word of the circuit, which `omega automaton` makes an automaton of. A proposition that the circuit does not
+name is open, and what it says of others is passed over. If the specification has the item
+`controllable-AP:`, an input with the name of a proposition of the system, or an output with the name of
+one of the environment, is refused as 58 Controllable.
+
+  $ omega realize --aiger arbiter.hoa | omega verify --specification arbiter.hoa
+  yes
+  $ printf 'aag 1 1 0 1 0\\n2\\n3\\ni0 request\\no0 grant\\n' |
+    omega verify --specification arbiter.hoa
+  no
+
+With --explain three lines follow `no`: a lasso of the automaton that `omega automaton` writes of the
+circuit, and a word along it, as `omega contained` writes both. Other refusals come as from these two.
+
 With --counter-strategy too, it checks a counter-strategy for the specification: a strategy of the
 environment against which no system satisfies it. The automaton has the same form, and has to be
 deterministic, as the specification has to be. It is right if it has a start where the specification has
@@ -135,7 +152,8 @@ the specification accepts none of its words. --counter-strategy goes with --spec
 the names of its propositions that the system controls, and --ins those that the environment controls, as
 for `omega realize`; one of the two is enough. The controller is right if it has a start, if in each state
 that it can reach it has an edge for every letter of the environment, and if each of its words satisfies
-the formula. With --counter-strategy none of its words may satisfy it. Propositions that the formula does
+the formula. A circuit is read in its place too. With --counter-strategy none of its words may satisfy
+the formula, and no circuit is read. Propositions that the formula does
 not mention are the environment's. If the automaton has the item `controllable-AP:`, this has to list
 exactly its propositions that the system controls.
 
@@ -168,12 +186,12 @@ const OPTIONS: &[OptionHelp] = &[
     OptionHelp {
         name: "specification",
         value: Value::Optional("FILE"),
-        help: "Judge a controller for the specification in this file",
+        help: "Judge a controller, or a circuit, for the specification in this file",
     },
     OptionHelp {
         name: "formula",
         value: Value::OptionalLettered('f', "FORMULA"),
-        help: "Judge a controller for this formula, as `omega ltl` reads one",
+        help: "Judge a controller, or a circuit, for this formula, as `omega ltl` reads one",
     },
     OUTS,
     INS,

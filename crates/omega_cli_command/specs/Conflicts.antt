@@ -4,7 +4,7 @@ use Rattle.omega_cli_command.specs.Options.{GivesFormat, text_of}
 use Rattle.omega_cli_command.specs.Subcommands.{HasOption}
 use Rattle.omega_cli_command.specs.Values.{GivesFlag}
 use Rattle.omega_cli_command.specs.declared.format.Format.{Format}
-use Rattle.omega_cli_command.specs.declared.format.Format.TheVariants.{Hoa, Pg}
+use Rattle.omega_cli_command.specs.declared.format.Format.TheVariants.{Aiger, Hoa, Pg}
 use Rattle.omega_cli_command.specs.declared.options.OptionName.{OptionName}
 use Rattle.omega_cli_command.specs.declared.options.OptionName.TheVariants as name
 use Rattle.omega_cli_command.specs.declared.options.Options.{Options}
@@ -42,6 +42,8 @@ IsUsed name.In options = text_of name.In options ≢ None
 IsUsed name.To options = text_of name.To options ≢ None
 IsUsed name.Controller options = GivesFlag (text_of name.Controller options) true
 IsUsed name.AsGame options = GivesFlag (text_of name.AsGame options) true
+IsUsed name.Aiger options = GivesFlag (text_of name.Aiger options) true
+IsUsed name.Binary options = GivesFlag (text_of name.Binary options) true
 IsUsed name.Lift options = GivesFlag (text_of name.Lift options) true
 IsUsed name.Solution options = text_of name.Solution options ≢ None
 IsUsed name.Walk options = text_of name.Walk options ≢ None
@@ -50,6 +52,7 @@ IsUsed name.Lasso options = GivesFlag (text_of name.Lasso options) true
 IsUsed name.Depth options = text_of name.Depth options ≢ None
 IsUsed name.Progress options = GivesFlag (text_of name.Progress options) true
 IsUsed name.Stream options = GivesFlag (text_of name.Stream options) true
+IsUsed name.AtLeast options = text_of name.AtLeast options ≢ None
 IsUsed name.Winners options = GivesFlag (text_of name.Winners options) true
 IsUsed name.Min options = GivesFlag (text_of name.Min options) true
 IsUsed name.Json options = GivesFlag (text_of name.Json options) true
@@ -60,10 +63,10 @@ IsUsed name.File options = text_of name.File options ≢ None
 -- the option of the subcommand that conflicts with this one. The search of `solve` is for both players, and that of
 -- `empty` makes no lifts. The progress of a stream is not reported. `verify` judges one thing, and only a game has
 -- parts, winners and names. Wrong winners are shown by no walk. One of a solution and a walk is drawn. The game of
--- `realize` is written without being solved. `ltl` has one formula, that of the option or that of a file, and makes its
--- negation not deterministic. `realize` decides the formula of the option, without lifting, or the automaton of a
--- file. `equal` compares with a file or with formulas, and `satisfies` is asked of a word, or of the automaton or the
--- stream of a file
+-- `realize` is written without being solved, and a circuit in place of an automaton and without lifting. `ltl` has one
+-- formula, that of the option or that of a file, and makes its negation not deterministic. `realize` decides the
+-- formula of the option, without lifting, or the automaton of a file. `equal` compares with a file or with formulas,
+-- and `satisfies` is asked of a word, or of the automaton or the stream of a file
 abbrev pub IsApartFrom : OptionName → Subcommand → OptionName → Type 0
 IsApartFrom name.Search subcommand option =
     ((subcommand ≡ sub.Solve) × (option ≡ name.Player))
@@ -78,6 +81,9 @@ IsApartFrom name.Specification subcommand option = (subcommand ≡ sub.Verify)
 IsApartFrom name.Winners subcommand option = (subcommand ≡ sub.Verify) × (option ≡ name.Names)
 IsApartFrom name.Solution subcommand option = (subcommand ≡ sub.Draw) × (option ≡ name.Walk)
 IsApartFrom name.Controller subcommand option = (subcommand ≡ sub.Realize) × (option ≡ name.AsGame)
+IsApartFrom name.Aiger subcommand option = (subcommand ≡ sub.Realize)
+    × ((option ≡ name.Controller) ⊎ (option ≡ name.AsGame) ⊎ (option ≡ name.Lift)
+    ⊎ (option ≡ name.Budget) ⊎ (option ≡ name.Progress))
 IsApartFrom name.Formula subcommand option = ((subcommand ≡ sub.Ltl) × (option ≡ name.File))
     ⊎ ((subcommand ≡ sub.Equal) × (option ≡ name.To))
     ⊎ ((subcommand ≡ sub.Realize) × ((option ≡ name.File) ⊎ (option ≡ name.Lift)
@@ -102,7 +108,8 @@ pub record IsConflict (subcommand : Subcommand) (options : Options)
 -- legend is of a solution, or of a walk that is drawn in place of one. Names are those of an explanation, and a
 -- counter-strategy is one for a specification, or for a formula in its place. The propositions of a formula are parted
 -- by one list or by both, and no others are. The lifts of `realize` are bounded and reported only if it lifts. A
--- searcher and an effort are those of a search
+-- searcher and an effort are those of a search. `realize` writes nothing in binary but a circuit. The automata of a
+-- stream are counted, and `check` takes one without saying so
 abbrev pub IsNeededBy : OptionName → Subcommand → Options → OptionName → Type 0
 IsNeededBy name.Depth subcommand options option = (subcommand ≡ sub.Draw) × (option ≡ name.From)
 IsNeededBy name.Legend subcommand options option =
@@ -122,6 +129,10 @@ IsNeededBy name.Effort subcommand options option = (subcommand ≡ sub.Solve) ×
 IsNeededBy name.Budget subcommand options option = (subcommand ≡ sub.Realize) × (option ≡ name.Lift)
 IsNeededBy name.Progress subcommand options option =
     (subcommand ≡ sub.Realize) × (option ≡ name.Lift)
+IsNeededBy name.Binary subcommand options option =
+    (subcommand ≡ sub.Realize) × (option ≡ name.Aiger)
+IsNeededBy name.AtLeast subcommand options option =
+    HasOption subcommand name.Stream × (option ≡ name.Stream)
 IsNeededBy one subcommand options option = ⊥
 
 -- an option is given without this one, which has to be given with it
@@ -139,7 +150,9 @@ IsForFormat subcommand option Pg =
     ⊎ ((subcommand ≡ sub.Draw) × ((option ≡ name.Solution) ⊎ (option ≡ name.Walk)
     ⊎ (option ≡ name.Legend) ⊎ (option ≡ name.From) ⊎ (option ≡ name.Depth)))
     ⊎ (HasOption subcommand name.Format × (option ≡ name.Lenient))
-IsForFormat subcommand option Hoa = (subcommand ≡ sub.Draw) × (option ≡ name.Lasso)
+IsForFormat subcommand option Hoa = ((subcommand ≡ sub.Draw) × (option ≡ name.Lasso))
+    ⊎ ((subcommand ≡ sub.Check) × (option ≡ name.AtLeast))
+IsForFormat subcommand option Aiger = (subcommand ≡ sub.Canon) × (option ≡ name.Binary)
 
 -- the option goes with this format only, and is given with another
 pub record IsOfOtherFormat (subcommand : Subcommand) (options : Options) (option : OptionName)

@@ -1,6 +1,6 @@
 -- What a subcommand asks for that reads formulas, and the text of the input.
-use Rattle.std.specs.Prelude.{◌≡◌, ◌≢◌, false, true, List, None, ℕ}
-use Rattle.omega_cli_command.specs.Options.{GivesFormulas, text_of}
+use Rattle.std.specs.Prelude.{◌≡◌, ◌≢◌, List, None, ℕ}
+use Rattle.omega_cli_command.specs.Options.{GivesFormulas, GivesOne, GivesStream, text_of}
 use Rattle.omega_cli_command.specs.Values.{GivesFlag}
 use Rattle.omega_cli_command.specs.declared.formulas.Formulas.{Formulas}
 use Rattle.omega_cli_command.specs.declared.formulas.Formulas.TheVariants as asked
@@ -16,13 +16,13 @@ AsksFormulas subcommand options (asked.Equal explain) formulas = (subcommand ≡
     × (text_of name.To options ≡ None)
 AsksFormulas subcommand options (asked.Satisfies explain) formulas = (subcommand ≡ sub.Satisfies)
     × GivesFormulas options formulas × GivesFlag (text_of name.Explain options) explain
-    × GivesFlag (text_of name.Stream options) false × (text_of name.WordText options ≡ None)
-AsksFormulas subcommand options (asked.SatisfiesStream explain) formulas =
+    × GivesOne options × (text_of name.WordText options ≡ None)
+AsksFormulas subcommand options (asked.SatisfiesStream explain at_least) formulas =
     (subcommand ≡ sub.Satisfies) × GivesFormulas options formulas
     × GivesFlag (text_of name.Explain options) explain
-    × GivesFlag (text_of name.Stream options) true × (text_of name.WordText options ≡ None)
+    × GivesStream options at_least × (text_of name.WordText options ≡ None)
 AsksFormulas subcommand options (asked.SatisfiesWord explain) formulas =
     (subcommand ≡ sub.Satisfies) × GivesFormulas options formulas
     × GivesFlag (text_of name.Explain options) explain
-    × GivesFlag (text_of name.Stream options) false × (text_of name.WordText options ≢ None)
+    × GivesOne options × (text_of name.WordText options ≢ None)
     × (text_of name.File options ≡ None)

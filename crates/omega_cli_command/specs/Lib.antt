@@ -14,10 +14,12 @@ pub mod Formulas
 pub mod Partition
 pub mod Leniency
 pub mod Task
-pub mod Request
 pub mod Reason
 pub mod Faulty
 pub mod Conflicts
+pub mod Implied
+pub mod Request
+pub mod Laws
 pub mod Mistakes
 pub mod Usage
 pub mod private

@@ -1,8 +1,8 @@
 -- The texts of the options, and what several options give.
-use Rattle.std.specs.Prelude.{◌≡◌, ◌≢◌, Bool, false, List, [], Option, Some, None, IsSome, ℕ, map}
+use Rattle.std.specs.Prelude.{◌≡◌, ◌≢◌, Bool, false, true, List, [], Option, Some, None, IsSome, ℕ, map}
 use Rattle.std.specs.Prelude.{option_map, slice_get, unwrap_or}
 use Rattle.omega_text.specs.Limits.{most_number}
-use Rattle.omega_cli_command.specs.Values.{Gives, GivesFlag, IsFormatText, IsNumberText}
+use Rattle.omega_cli_command.specs.Values.{Gives, GivesAtLeast, GivesFlag, IsFormatText, IsNumberText}
 use Rattle.omega_cli_command.specs.declared.format.Format.{Format}
 use Rattle.omega_cli_command.specs.declared.options.OptionName.{OptionName}
 use Rattle.omega_cli_command.specs.declared.options.OptionName.TheVariants as name
@@ -45,6 +45,8 @@ text_of name.In options = option_map (λ text. text.now) options.within
 text_of name.To options = option_map (λ text. text.now) options.to
 text_of name.Controller options = option_map (λ text. text.now) options.controller
 text_of name.AsGame options = option_map (λ text. text.now) options.as_game
+text_of name.Aiger options = option_map (λ text. text.now) options.aiger
+text_of name.Binary options = option_map (λ text. text.now) options.binary
 text_of name.Lift options = option_map (λ text. text.now) options.lift
 text_of name.Solution options = option_map (λ text. text.now) options.solution
 text_of name.Walk options = option_map (λ text. text.now) options.walk
@@ -53,6 +55,7 @@ text_of name.Lasso options = option_map (λ text. text.now) options.lasso
 text_of name.Depth options = option_map (λ text. text.now) options.depth
 text_of name.Progress options = option_map (λ text. text.now) options.progress
 text_of name.Stream options = option_map (λ text. text.now) options.stream
+text_of name.AtLeast options = option_map (λ text. text.now) options.at_least
 text_of name.Winners options = option_map (λ text. text.now) options.winners
 text_of name.Min options = option_map (λ text. text.now) options.min
 text_of name.Json options = option_map (λ text. text.now) options.json
@@ -89,6 +92,16 @@ abbrev pub GivesEmptyLines : Options → (word names : Bool) → Type 0
 GivesEmptyLines options word names =
     GivesFlag (text_of name.Word options) word × GivesFlag (text_of name.Names options) names
 
+-- the options ask for one text
+abbrev pub GivesOne : Options → Type 0
+GivesOne options =
+    GivesFlag (text_of name.Stream options) false × (text_of name.AtLeast options ≡ None)
+
+-- the options ask for a stream, which is to have at least so many automata
+abbrev pub GivesStream : Options → (at_least : ℕ) → Type 0
+GivesStream options at_least = GivesFlag (text_of name.Stream options) true
+    × GivesAtLeast (text_of name.AtLeast options) at_least
+
 -- no option is given that goes with lifting
 abbrev pub GivesNoLifting : Options → Type 0
 GivesNoLifting options =
@@ -98,6 +111,13 @@ GivesNoLifting options =
 abbrev pub GivesNoFormula : Options → Type 0
 GivesNoFormula options = (text_of name.Formula options ≡ None)
     × (text_of name.Outs options ≡ None) × (text_of name.Ins options ≡ None)
+
+-- whether the options ask `realize` to write the winner's automaton, the game, or a circuit, and that in binary
+abbrev pub GivesWritten : Options → (controller as_game aiger binary : Bool) → Type 0
+GivesWritten options controller as_game aiger binary =
+    GivesFlag (text_of name.Controller options) controller
+    × GivesFlag (text_of name.AsGame options) as_game
+    × GivesFlag (text_of name.Aiger options) aiger × GivesFlag (text_of name.Binary options) binary
 
 -- no option is given that goes with the search of a game
 abbrev pub GivesNoSearching : Options → Type 0

@@ -3,7 +3,7 @@ use Rattle.std.specs.Prelude.{◌≡◌, ◌≢◌, ◌⊎◌, ◌-◌, ◌==◌
 use Rattle.std.specs.Prelude.{drop, length, map, option_map, take}
 use Rattle.std.specs.Char.{is_ascii_whitespace}
 use Rattle.std.specs.List.{prefix_len, slice_split, suffix_len}
-use Rattle.omega_cli_command.specs.Options.{GivesNoLifting, text_of}
+use Rattle.omega_cli_command.specs.Options.{GivesNoLifting, GivesWritten, text_of}
 use Rattle.omega_cli_command.specs.TwoTexts.{HasOther}
 use Rattle.omega_cli_command.specs.Values.{GivesFlag}
 use Rattle.omega_cli_command.specs.declared.formula_judge.FormulaJudge.{FormulaJudge}
@@ -50,19 +50,19 @@ pub record GivesPartition (options : Options) (partition : Partition) : Type 0 w
 
 -- ---- what is asked for
 
--- `realize`, with these options, asks for this of a formula of the command line
-abbrev pub AsksOfFormula : Subcommand → Options → (as_game controller : Bool) → Partition → Type 0
-AsksOfFormula subcommand options as_game controller partition = (subcommand ≡ sub.Realize)
+-- the options ask `realize` for this of a formula
+abbrev pub GivesSynthesis : Options → Synthesis → Type 0
+GivesSynthesis options asked.Decide = GivesWritten options false false false false
+GivesSynthesis options asked.Controller = GivesWritten options true false false false
+GivesSynthesis options (asked.Circuit binary) = GivesWritten options false false true binary
+GivesSynthesis options asked.Game = GivesWritten options false true false false
+
+-- the subcommand, with these options, asks for this of a formula of the command line
+abbrev pub AsksSynthesis : Subcommand → Options → Synthesis → Partition → Type 0
+AsksSynthesis subcommand options asked partition = (subcommand ≡ sub.Realize)
     × (text_of name.Formula options ≢ None) × (text_of name.File options ≡ None)
     × GivesFlag (text_of name.Lift options) false × GivesNoLifting options
-    × GivesFlag (text_of name.AsGame options) as_game
-    × GivesFlag (text_of name.Controller options) controller × GivesPartition options partition
-
--- the subcommand, with these options, asks for this of a formula
-abbrev pub AsksSynthesis : Subcommand → Options → Synthesis → Partition → Type 0
-AsksSynthesis subcommand options asked.Decide = AsksOfFormula subcommand options false false
-AsksSynthesis subcommand options asked.Controller = AsksOfFormula subcommand options false true
-AsksSynthesis subcommand options asked.Game = AsksOfFormula subcommand options true false
+    × GivesSynthesis options asked × GivesPartition options partition
 
 -- `verify`, with these options, asks whether what the input has is right for a formula of the command line
 abbrev pub AsksForFormula : Subcommand → Options → (explain counter_strategy : Bool) → Other

@@ -1,8 +1,8 @@
 -- What a subcommand asks for that reads a stream of automata.
 use Rattle.std.specs.Prelude.{◌≡◌, true, false}
-use Rattle.omega_cli_command.specs.Formats.{AsksOfEither}
-use Rattle.omega_cli_command.specs.Options.{GivesEmptyLines, GivesFormat, GivesNoLifting, text_of}
-use Rattle.omega_cli_command.specs.Values.{GivesFlag}
+use Rattle.omega_cli_command.specs.Formats.{AsksOfAny}
+use Rattle.omega_cli_command.specs.Options.{GivesEmptyLines, GivesFormat, GivesNoLifting, GivesStream, text_of}
+use Rattle.omega_cli_command.specs.Values.{GivesAtLeast, GivesFlag}
 use Rattle.omega_cli_command.specs.declared.format.Format.TheVariants.{Hoa}
 use Rattle.omega_cli_command.specs.declared.one_text.OneText.TheVariants as one
 use Rattle.omega_cli_command.specs.declared.options.OptionName.TheVariants as name
@@ -15,22 +15,22 @@ use Rattle.omega_cli_command.specs.declared.subcommand.Subcommand.TheVariants as
 -- the subcommand, with these options, asks for this of a stream of automata
 abbrev pub AsksStream : Subcommand → Options → Stream → Type 0
 AsksStream subcommand options stream.Show =
-    GivesFormat options Hoa × AsksOfEither subcommand options one.Show
+    GivesFormat options Hoa × AsksOfAny subcommand options one.Show
 AsksStream subcommand options stream.ShowJson =
-    GivesFormat options Hoa × AsksOfEither subcommand options one.ShowJson
-AsksStream subcommand options stream.Check =
-    GivesFormat options Hoa × AsksOfEither subcommand options one.Check
+    GivesFormat options Hoa × AsksOfAny subcommand options one.ShowJson
+AsksStream subcommand options (stream.Check at_least) = GivesFormat options Hoa
+    × (subcommand ≡ sub.Check) × GivesAtLeast (text_of name.AtLeast options) at_least
 AsksStream subcommand options stream.Canon =
-    GivesFormat options Hoa × AsksOfEither subcommand options one.Canon
-AsksStream subcommand options (stream.Empty word names status) =
-    (subcommand ≡ sub.Empty) × GivesFlag (text_of name.Stream options) true
+    GivesFormat options Hoa × AsksOfAny subcommand options one.Canon
+AsksStream subcommand options (stream.Empty word names status at_least) =
+    (subcommand ≡ sub.Empty) × GivesStream options at_least
     × GivesFlag (text_of name.Search options) false × GivesFlag (text_of name.Progress options) false
     × GivesEmptyLines options word names × GivesFlag (text_of name.Status options) status
-AsksStream subcommand options (stream.EmptySearch word names status) =
-    (subcommand ≡ sub.Empty) × GivesFlag (text_of name.Stream options) true
+AsksStream subcommand options (stream.EmptySearch word names status at_least) =
+    (subcommand ≡ sub.Empty) × GivesStream options at_least
     × GivesFlag (text_of name.Search options) true × GivesNoLifting options
     × GivesEmptyLines options word names × GivesFlag (text_of name.Status options) status
-AsksStream subcommand options stream.Complement =
-    (subcommand ≡ sub.Complement) × GivesFlag (text_of name.Stream options) true
-AsksStream subcommand options stream.Trim =
-    (subcommand ≡ sub.Trim) × GivesFlag (text_of name.Stream options) true
+AsksStream subcommand options (stream.Complement at_least) =
+    (subcommand ≡ sub.Complement) × GivesStream options at_least
+AsksStream subcommand options (stream.Trim at_least) =
+    (subcommand ≡ sub.Trim) × GivesStream options at_least

@@ -14,6 +14,7 @@ name_of sub.Solve = codes "solve"
 name_of sub.Verify = codes "verify"
 name_of sub.Empty = codes "empty"
 name_of sub.Game = codes "game"
+name_of sub.Automaton = codes "automaton"
 name_of sub.Accepts = codes "accepts"
 name_of sub.Contained = codes "contained"
 name_of sub.Equal = codes "equal"
@@ -66,6 +67,8 @@ HasOption subcommand name.In = subcommand ≡ sub.Contained
 HasOption subcommand name.To = subcommand ≡ sub.Equal
 HasOption subcommand name.Controller = subcommand ≡ sub.Realize
 HasOption subcommand name.AsGame = subcommand ≡ sub.Realize
+HasOption subcommand name.Aiger = subcommand ≡ sub.Realize
+HasOption subcommand name.Binary = (subcommand ≡ sub.Realize) ⊎ (subcommand ≡ sub.Canon)
 HasOption subcommand name.Lift = subcommand ≡ sub.Realize
 HasOption subcommand name.Solution = subcommand ≡ sub.Draw
 HasOption subcommand name.Walk = subcommand ≡ sub.Draw
@@ -76,6 +79,9 @@ HasOption subcommand name.Progress =
     (subcommand ≡ sub.Solve) ⊎ (subcommand ≡ sub.Empty) ⊎ (subcommand ≡ sub.Realize)
 HasOption subcommand name.Stream = (subcommand ≡ sub.Empty) ⊎ (subcommand ≡ sub.Contained)
     ⊎ (subcommand ≡ sub.Satisfies) ⊎ (subcommand ≡ sub.Complement) ⊎ (subcommand ≡ sub.Trim)
+HasOption subcommand name.AtLeast = (subcommand ≡ sub.Check) ⊎ (subcommand ≡ sub.Empty)
+    ⊎ (subcommand ≡ sub.Contained) ⊎ (subcommand ≡ sub.Satisfies) ⊎ (subcommand ≡ sub.Complement)
+    ⊎ (subcommand ≡ sub.Trim)
 HasOption subcommand name.Winners = subcommand ≡ sub.Verify
 HasOption subcommand name.Min = subcommand ≡ sub.Canon
 HasOption subcommand name.Json = subcommand ≡ sub.Show

@@ -1,8 +1,8 @@
 -- The task that a subcommand asks for.
 use Rattle.std.specs.Prelude.{Bool, true, false, List, Option, None, ℕ}
-use Rattle.omega_cli_command.specs.Formats.{AsksOfEither, LeavesFormat}
+use Rattle.omega_cli_command.specs.Formats.{AsksOfAny, LeavesFormat}
 use Rattle.omega_cli_command.specs.Formulas.{AsksFormulas}
-use Rattle.omega_cli_command.specs.Leniency.{IsForGames, MeansForGames}
+use Rattle.omega_cli_command.specs.Leniency.{IsForGames}
 use Rattle.omega_cli_command.specs.OneText.{AsksOneText}
 use Rattle.omega_cli_command.specs.Options.{text_of}
 use Rattle.omega_cli_command.specs.Partition.{AsksFormulaJudge, AsksSynthesis}
@@ -31,7 +31,7 @@ AsksCommand false subcommand options (command.Synthesis asked partition) =
 AsksCommand false subcommand options (command.FormulaJudge asked other partition) =
     AsksFormulaJudge subcommand options asked other partition
 AsksCommand true subcommand options (command.OneText asked) =
-    LeavesFormat subcommand options × AsksOfEither subcommand options asked
+    LeavesFormat options × AsksOfAny subcommand options asked
 AsksCommand true subcommand options other = ⊥
 
 -- the text of an option that goes with lifting, if the subcommand may lift
@@ -55,5 +55,5 @@ AsksFor subcommand options task = AsksCommand task.by_text subcommand options ta
 -- the same, with games read leniently or not
 abbrev pub AsksReading : (lenient : Bool) → Subcommand → Options → Task → Type 0
 AsksReading false subcommand options task = AsksFor subcommand options task
-AsksReading true subcommand options task = IsForGames subcommand options
-    × ((meant : Options) × MeansForGames options meant × AsksFor subcommand meant task)
+AsksReading true subcommand options task =
+    IsForGames subcommand options × AsksFor subcommand options task

@@ -1,6 +1,7 @@
 -- What a subcommand asks for that reads two texts, and where the other of them comes from.
 use Rattle.std.specs.Prelude.{◌≡◌, Bool, true, false, List, Option, Some, None, ℕ, string_bytes}
-use Rattle.omega_cli_command.specs.Options.{GivesFormat, GivesNoFormula, GivesNode, GivesPart, text_of}
+use Rattle.omega_cli_command.specs.Options.{GivesFormat, GivesNoFormula, GivesNode, GivesOne, GivesPart}
+use Rattle.omega_cli_command.specs.Options.{GivesStream, text_of}
 use Rattle.omega_cli_command.specs.Values.{GivesFlag}
 use Rattle.omega_cli_command.specs.declared.format.Format.TheVariants.{Pg}
 use Rattle.omega_cli_command.specs.declared.options.OptionName.TheVariants as name
@@ -84,10 +85,10 @@ AsksTwoTexts subcommand options (two.AcceptsSome explain) source = (subcommand �
     × GivesFlag (text_of name.Explain options) explain × GivesFlag (text_of name.ForSome options) true
 AsksTwoTexts subcommand options (two.Contained explain) source = (subcommand ≡ sub.Contained)
     × NamesOther (text_of name.In options) source × GivesFlag (text_of name.Explain options) explain
-    × GivesFlag (text_of name.Stream options) false
-AsksTwoTexts subcommand options (two.ContainedStream explain) source = (subcommand ≡ sub.Contained)
-    × NamesOther (text_of name.In options) source × GivesFlag (text_of name.Explain options) explain
-    × GivesFlag (text_of name.Stream options) true
+    × GivesOne options
+AsksTwoTexts subcommand options (two.ContainedStream explain at_least) source =
+    (subcommand ≡ sub.Contained) × NamesOther (text_of name.In options) source
+    × GivesFlag (text_of name.Explain options) explain × GivesStream options at_least
 AsksTwoTexts subcommand options (two.Equal explain) source = (subcommand ≡ sub.Equal)
     × NamesOther (text_of name.To options) source × GivesFlag (text_of name.Explain options) explain
     × (text_of name.Formula options ≡ None)

@@ -3,9 +3,10 @@ use Rattle.std.specs.Prelude.{◌≡◌, ◌≤◌, Bool, true, false, List, Opt
 use Rattle.std.specs.Str.Parse.{IsNumeral, digits_value}
 use Rattle.omega_game_values.specs.declared.player.Player.{Player}
 use Rattle.omega_game_values.specs.Player.{player_number}
+use Rattle.omega_text.specs.Limits.{most_number}
 use Rattle.omega_cli_command.specs.Limits.{most_budget, most_effort}
 use Rattle.omega_cli_command.specs.declared.format.Format.{Format}
-use Rattle.omega_cli_command.specs.declared.format.Format.TheVariants.{Hoa, Pg}
+use Rattle.omega_cli_command.specs.declared.format.Format.TheVariants.{Aiger, Hoa, Pg}
 use Rattle.omega_cli_command.specs.declared.searcher_name.SearcherName.{SearcherName}
 use Rattle.omega_cli_command.specs.declared.searcher_name.SearcherName.TheVariants.{Tangles, Zielonka}
 
@@ -23,9 +24,13 @@ abbrev pub IsPlayerText : List ℕ → Player → Type 0
 IsPlayerText text player = IsNumberText 0 1 text (player_number player)
 
 -- the name of a format that is offered
+abbrev pub format_name : Format → List ℕ
+format_name Pg = codes "pg"
+format_name Hoa = codes "hoa"
+format_name Aiger = codes "aiger"
+
 abbrev pub IsFormatText : List ℕ → Format → Type 0
-IsFormatText text Pg = text ≡ codes "pg"
-IsFormatText text Hoa = text ≡ codes "hoa"
+IsFormatText text format = text ≡ format_name format
 
 -- the name of a searcher that is offered
 abbrev pub IsSearcherText : List ℕ → SearcherName → Type 0
@@ -55,6 +60,11 @@ GivesBudget (Some text) budget = IsNumberText 0 most_budget text budget
 abbrev pub GivesEffort : Option (List ℕ) → ℕ → Type 0
 GivesEffort None effort = effort ≡ 1
 GivesEffort (Some text) effort = IsNumberText 1 most_effort text effort
+
+-- the least number of automata: by default 0
+abbrev pub GivesAtLeast : Option (List ℕ) → ℕ → Type 0
+GivesAtLeast None at_least = at_least ≡ 0
+GivesAtLeast (Some text) at_least = IsNumberText 0 most_number text at_least
 
 -- a flag: by default it is not set
 abbrev pub GivesFlag : Option (List ℕ) → Bool → Type 0

@@ -1,4 +1,5 @@
 -- What only private contracts cite.
+pub mod Implied
 pub mod Numbers
 pub mod Realize
 pub mod Tasks

@@ -1,5 +1,5 @@
 ghost use Rattle.std.specs.Prelude.{◌≡◌};
-ghost use Rattle.omega_cli_command.specs.Formats.{for_automata};
+ghost use Rattle.omega_cli_command.specs.Formats.{for_automata, for_circuits};
 
 use crate::formula_judge::FormulaJudge;
 use crate::formulas::Formulas;
@@ -37,9 +37,25 @@ impl Command {
         match self {
             Command::OneText(OneText::Show) => Command::Stream(Stream::Show),
             Command::OneText(OneText::ShowJson) => Command::Stream(Stream::ShowJson),
-            Command::OneText(OneText::Check) => Command::Stream(Stream::Check),
+            Command::OneText(OneText::Check) => Command::Stream(Stream::Check { at_least: 0 }),
             Command::OneText(OneText::Canon) => Command::Stream(Stream::Canon),
             Command::OneText(OneText::DrawGame) => Command::OneText(OneText::DrawAutomaton),
+            other => other,
+        }
+    }
+
+    /// Returns the command for the text of a circuit: that of circuits in place of `show`, `check` and `canon` of
+    /// games, and any other as it is. The canonical text is in ASCII.
+    pub fn for_circuits(self) -> Command
+        ensures { result ≡ for_circuits self }
+    {
+        match self {
+            Command::OneText(OneText::Show) => Command::OneText(OneText::ShowCircuit),
+            Command::OneText(OneText::ShowJson) => Command::OneText(OneText::ShowCircuitJson),
+            Command::OneText(OneText::Check) => Command::OneText(OneText::CheckCircuit),
+            Command::OneText(OneText::Canon) => {
+                Command::OneText(OneText::CanonCircuit { binary: false })
+            }
             other => other,
         }
     }

@@ -7,6 +7,8 @@ pub enum Format {
     Pg,
     /// A stream of automata in the Hanoi Omega-Automata Format, version 1.
     Hoa,
+    /// A circuit in the AIGER format, in ASCII or in binary.
+    Aiger,
 }
 
 /// The name of the format on a command line.
@@ -15,6 +17,7 @@ impl fmt::Display for Format {
         f.write_str(match self {
             Format::Pg => "pg",
             Format::Hoa => "hoa",
+            Format::Aiger => "aiger",
         })
     }
 }

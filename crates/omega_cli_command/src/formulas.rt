@@ -15,6 +15,8 @@ pub enum Formulas {
     SatisfiesStream {
         /// Whether a `no` is explained.
         explain: bool,
+        /// How many automata the stream is to have at least, or else the exit is that of a `no`.
+        at_least: u32,
     },
     /// Says whether each word that the input admits, which is the text of a word, satisfies the formula.
     SatisfiesWord {

@@ -1,7 +1,8 @@
 //! The option `--lenient`, by which games are read as other tools write them.
-ghost use Rattle.std.specs.Prelude.{◌≡◌, IfErr, IfOk, OnOk, false, true};
-ghost use Rattle.omega_cli_command.specs.Leniency.{GivesLeniency, IsForGames, MeansForGames};
-ghost use Rattle.omega_cli_command.specs.Mistakes.{IsWrong};
+ghost use Rattle.std.specs.Prelude.{◌≡◌, IfErr, IfOk, None, OnOk, false, true};
+ghost use Rattle.omega_cli_command.specs.Implied.{ImpliesFormat};
+ghost use Rattle.omega_cli_command.specs.Leniency.{GivesLeniency, IsForGames};
+ghost use Rattle.omega_cli_command.specs.Mistakes.{IsMistake};
 ghost use Rattle.omega_cli_command.specs.Subcommands.{HasGames, HasOption};
 ghost use Rattle.omega_cli_command.specs.declared.options.OptionName.TheVariants as name;
 ghost use Rattle.omega_cli_command.specs.declared.subcommand.Subcommand.TheVariants as sub;
@@ -18,7 +19,7 @@ pub fn leniency_in<'a>(
     options: &Options<'_, 'a>,
 ) -> Result<bool, Mistake<'a>>
     ensures given { IfOk result (GivesLeniency subcommand options.now) }
-    ensures mistaken { IfErr result (IsWrong subcommand options.now) }
+    ensures mistaken { IfErr result (IsMistake subcommand options.now) }
 {
     if has_games(subcommand) {
         is_set(OptionName::Lenient, options.lenient)
@@ -44,9 +45,10 @@ pub fn demand_games<'a>(
     subcommand: Subcommand,
     options: &Options<'_, 'a>,
 ) -> Result<(), Mistake<'a>>
-    requires { GivesLeniency subcommand options.now true }
+    requires lenient { GivesLeniency subcommand options.now true }
+    requires settled { ImpliesFormat subcommand options.now None }
     ensures games { OnOk result (IsForGames subcommand options.now) }
-    ensures mistaken { IfErr result (IsWrong subcommand options.now) }
+    ensures mistaken { IfErr result (IsMistake subcommand options.now) }
 {
     match subcommand {
         Subcommand::Solve => Ok(()),
@@ -59,7 +61,7 @@ pub fn demand_games<'a>(
 fn demand_game<'a>(options: &Options<'_, 'a>) -> Result<(), Mistake<'a>>
     requires { GivesLeniency sub.Verify options.now true }
     ensures games { OnOk result (IsForGames sub.Verify options.now) }
-    ensures mistaken { IfErr result (IsWrong sub.Verify options.now) }
+    ensures mistaken { IfErr result (IsMistake sub.Verify options.now) }
 {
     if options.automaton.is_some() {
         return Err(Mistake::Conflict(OptionName::Automaton, OptionName::Lenient));
@@ -79,25 +81,13 @@ fn demand_game_format<'a>(
     options: &Options<'_, 'a>,
 ) -> Result<(), Mistake<'a>>
     requires lenient { GivesLeniency subcommand options.now true }
+    requires settled { ImpliesFormat subcommand options.now None }
     requires format { HasOption subcommand name.Format }
     ensures games { OnOk result (IsForGames subcommand options.now) }
-    ensures mistaken { IfErr result (IsWrong subcommand options.now) }
+    ensures mistaken { IfErr result (IsMistake subcommand options.now) }
 {
-    if options.format.is_none() {
-        return Ok(());
-    }
     match format_in(options)? {
         Format::Pg => Ok(()),
-        Format::Hoa => Err(Mistake::OnlyWith(OptionName::Lenient, Format::Pg)),
-    }
-}
-
-/// Returns what `options` mean with `--lenient`: the format is that of games.
-pub fn meant_for_games<'m, 'a>(options: &Options<'m, 'a>) -> Options<'m, 'a>
-    ensures { MeansForGames options.now result }
-{
-    Options {
-        format: Some("pg"),
-        ..*options
+        Format::Hoa | Format::Aiger => Err(Mistake::OnlyWith(OptionName::Lenient, Format::Pg)),
     }
 }

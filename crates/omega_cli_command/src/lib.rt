@@ -5,6 +5,8 @@ mod command;
 mod format;
 mod formula_judge;
 mod formulas;
+mod implied;
+pub mod laws;
 mod leniency;
 mod limits;
 mod mistake;

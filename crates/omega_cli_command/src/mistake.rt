@@ -38,6 +38,8 @@ pub enum Reason {
     Outside { number: u64, least: u64, most: u64 },
     /// No format has the name.
     NoFormat,
+    /// Texts of the format that it names are not drawn.
+    NotDrawn,
     /// No searcher has the name.
     NoSearcher,
     /// It is neither `true` nor `false`.
@@ -58,7 +60,9 @@ impl fmt::Display for Reason {
             Reason::Sign => "a number is written in digits, without a sign",
             Reason::NotDigits => "invalid digit found in string",
             Reason::TooLarge => "the number is too large",
-            Reason::NoFormat => "the formats are pg and hoa",
+            Reason::NoFormat => "the formats are pg, hoa and aiger",
+            Reason::NotDrawn =>
+                "`omega automaton` makes an automaton of a circuit, which can be drawn",
             Reason::NoSearcher => "the searchers are zielonka and tangles",
             Reason::NoTruth => "neither true nor false",
         })

@@ -10,6 +10,17 @@ pub enum OneText {
     ShowJson,
     /// Says that the text of a game is accepted.
     Check,
+    /// Describes a circuit by its size.
+    ShowCircuit,
+    /// The same as a value of JSON.
+    ShowCircuitJson,
+    /// Says that the text of a circuit is accepted.
+    CheckCircuit,
+    /// Writes a circuit in the one form that it has.
+    CanonCircuit {
+        /// Whether it is written in binary, and not in ASCII.
+        binary: bool,
+    },
     /// Writes a game in the one form that it has.
     Canon,
     /// Writes the part of a game that one node reaches, in the same form.
@@ -58,6 +69,8 @@ pub enum OneText {
     },
     /// Writes the emptiness game of an automaton.
     Game,
+    /// Writes the automaton of the words of a circuit.
+    CircuitAutomaton,
     /// Writes an automaton that accepts the words that a deterministic one does not.
     Complement,
     /// Writes an automaton without the states that no start reaches and those in which no accepting lasso starts.
@@ -79,6 +92,12 @@ pub enum OneText {
     RealizeByLifting {
         /// Whether the winner's automaton is written in place of the line.
         controller: bool,
+    },
+    /// Says whether an automaton is realizable, and writes a controller as a circuit if there is one. Decided as by
+    /// `Realize`.
+    RealizeCircuit {
+        /// Whether the circuit is written in binary, and not in ASCII.
+        binary: bool,
     },
     /// Writes the game in which it is decided whether an automaton is realizable.
     RealizabilityGame,

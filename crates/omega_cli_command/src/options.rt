@@ -38,6 +38,8 @@ pub enum OptionName {
     Controller,
     /// The flag `--game`, which names no file.
     AsGame,
+    Aiger,
+    Binary,
     Lift,
     Solution,
     Walk,
@@ -46,6 +48,7 @@ pub enum OptionName {
     Depth,
     Progress,
     Stream,
+    AtLeast,
     Winners,
     Min,
     Json,
@@ -86,6 +89,8 @@ impl fmt::Display for OptionName {
             OptionName::To => "--to <FILE>",
             OptionName::Controller => "--controller",
             OptionName::AsGame => "--game",
+            OptionName::Aiger => "--aiger",
+            OptionName::Binary => "--binary",
             OptionName::Lift => "--lift",
             OptionName::Solution => "--solution <FILE>",
             OptionName::Walk => "--walk <FILE>",
@@ -94,6 +99,7 @@ impl fmt::Display for OptionName {
             OptionName::Depth => "--depth <N>",
             OptionName::Progress => "--progress",
             OptionName::Stream => "--stream",
+            OptionName::AtLeast => "--at-least <N>",
             OptionName::Winners => "--winners",
             OptionName::Min => "--min",
             OptionName::Json => "--json",
@@ -107,7 +113,7 @@ impl fmt::Display for OptionName {
 /// The texts of the options that are given, and of the operand.
 #[derive(Clone, Copy)]
 pub struct Options<'m, 'a> {
-    /// The kind of text, `pg` or `hoa`.
+    /// The kind of text, `pg`, `hoa` or `aiger`.
     pub format: Option<&'a str>,
     /// The number of a player, 0 or 1.
     pub player: Option<&'a str>,
@@ -164,6 +170,10 @@ pub struct Options<'m, 'a> {
     /// As `search`.
     pub as_game: Option<&'a str>,
     /// As `search`.
+    pub aiger: Option<&'a str>,
+    /// As `search`.
+    pub binary: Option<&'a str>,
+    /// As `search`.
     pub lift: Option<&'a str>,
     /// The name of the file of a solution.
     pub solution: Option<&'a str>,
@@ -179,6 +189,8 @@ pub struct Options<'m, 'a> {
     pub progress: Option<&'a str>,
     /// As `search`.
     pub stream: Option<&'a str>,
+    /// How many automata a stream is to have at least, at most `MOST_NUMBER`.
+    pub at_least: Option<&'a str>,
     /// As `search`.
     pub winners: Option<&'a str>,
     /// As `search`.

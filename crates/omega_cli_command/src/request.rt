@@ -1,10 +1,10 @@
-ghost use Rattle.std.specs.Prelude.{IfErr, IfOk};
-ghost use Rattle.omega_cli_command.specs.Leniency.{GivesLeniency};
-ghost use Rattle.omega_cli_command.specs.Mistakes.{IsWrong};
-ghost use Rattle.omega_cli_command.specs.Request.{Asks, IsRunnable};
-ghost use Rattle.omega_cli_command.specs.Task.{AsksReading};
+ghost use Rattle.std.specs.Prelude.{IfErr, IfOk, None};
+ghost use Rattle.omega_cli_command.specs.Implied.{ImpliesFormat};
+ghost use Rattle.omega_cli_command.specs.Mistakes.{IsMistake, IsWrong};
+ghost use Rattle.omega_cli_command.specs.Request.{Asks, AsksPlainly, IsRunnable};
 
-use crate::leniency::{demand_games, leniency_in, meant_for_games};
+use crate::implied::meant_options;
+use crate::leniency::{demand_games, leniency_in};
 use crate::mistake::Mistake;
 use crate::options::{OptionName, Options};
 use crate::source::source_in;
@@ -25,8 +25,8 @@ pub enum Request {
     Fault(String),
 }
 
-/// Returns what `subcommand` requests with `options`, or what is wrong with them. Options that the subcommand does not
-/// take are not looked at.
+/// Returns what `subcommand` requests with what `options` mean, or what is wrong with them. Options that the subcommand
+/// does not take are not looked at.
 pub fn request_for<'a>(
     alloc: Global,
     subcommand: Subcommand,
@@ -36,9 +36,26 @@ pub fn request_for<'a>(
     ensures runnable { IfOk result IsRunnable }
     ensures mistaken { IfErr result (IsWrong subcommand options.now) }
 {
+    plain_request(alloc, subcommand, &meant_options(subcommand, options))
+}
+
+/// Returns what `subcommand` requests with `options` as they are, or what is wrong with them.
+fn plain_request<'a>(
+    alloc: Global,
+    subcommand: Subcommand,
+    options: &Options<'_, 'a>,
+) -> Result<Request, Mistake<'a>>
+    requires { ImpliesFormat subcommand options.now None }
+    ensures asked { IfOk result (AsksPlainly subcommand options.now) }
+    ensures runnable { IfOk result IsRunnable }
+    ensures mistaken { IfErr result (IsMistake subcommand options.now) }
+{
     let verbose = is_set(OptionName::Verbose, options.verbose)?;
     let lenient = leniency_in(subcommand, options)?;
-    let task = task_reading(alloc, subcommand, options, lenient)?;
+    if lenient {
+        demand_games(subcommand, options)?;
+    }
+    let task = task_for(alloc, subcommand, options)?;
     let source = source_in(alloc, subcommand, options)?;
     Ok(Request::Do(Task {
         source,
@@ -46,23 +63,4 @@ pub fn request_for<'a>(
         verbose,
         ..task
     }))
-}
-
-/// Returns the task that `subcommand` requests with `options`, or what is wrong with them. With `lenient` the format is
-/// that of games.
-fn task_reading<'a>(
-    alloc: Global,
-    subcommand: Subcommand,
-    options: &Options<'_, 'a>,
-    lenient: bool,
-) -> Result<Task, Mistake<'a>>
-    requires { GivesLeniency subcommand options.now lenient }
-    ensures asked { IfOk result (AsksReading lenient subcommand options.now) }
-    ensures mistaken { IfErr result (IsWrong subcommand options.now) }
-{
-    if !lenient {
-        return task_for(alloc, subcommand, options);
-    }
-    demand_games(subcommand, options)?;
-    task_for(alloc, subcommand, &meant_for_games(options))
 }

@@ -6,7 +6,10 @@ pub enum Stream {
     /// The same as a value of JSON.
     ShowJson,
     /// Says that the text of the stream is accepted.
-    Check,
+    Check {
+        /// How many automata the stream is to have at least, or else the exit is that of a `no`.
+        at_least: u32,
+    },
     /// Writes the automaton in the one form that it has.
     Canon,
     /// Says whether it accepts nothing, and shows a lasso if it accepts something. Decided by lifting.
@@ -17,6 +20,8 @@ pub enum Stream {
         names: bool,
         /// Whether the exit says if one of the automata accepts nothing.
         status: bool,
+        /// How many automata the stream is to have at least, or else the exit is that of a `no`.
+        at_least: u32,
     },
     /// The same, decided by a search.
     EmptySearch {
@@ -26,9 +31,17 @@ pub enum Stream {
         names: bool,
         /// Whether the exit says if one of the automata accepts nothing.
         status: bool,
+        /// How many automata the stream is to have at least, or else the exit is that of a `no`.
+        at_least: u32,
     },
     /// Writes an automaton that accepts the words that it does not.
-    Complement,
+    Complement {
+        /// How many automata the stream is to have at least, or else the exit is that of a `no`.
+        at_least: u32,
+    },
     /// Writes the same automaton without its useless states.
-    Trim,
+    Trim {
+        /// How many automata the stream is to have at least, or else the exit is that of a `no`.
+        at_least: u32,
+    },
 }

@@ -15,8 +15,8 @@ use std::alloc::Global;
 pub struct Task {
     /// What is done with the texts.
     pub command: Command,
-    /// Whether the first token of the input's text tells its format. If the text is of automata, the command is that of
-    /// [Command::for_automata].
+    /// Whether the beginning of the input's text tells its format. If the text is of automata, the command is that of
+    /// [Command::for_automata], and if it is of a circuit, that of [Command::for_circuits].
     pub by_text: bool,
     /// The source of the input.
     pub source: Source,

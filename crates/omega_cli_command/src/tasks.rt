@@ -1,5 +1,6 @@
 //! The tasks that the subcommands request.
-ghost use Rattle.std.specs.Prelude.{IfErr, IfOk};
+ghost use Rattle.std.specs.Prelude.{IfErr, IfOk, None};
+ghost use Rattle.omega_cli_command.specs.Implied.{ImpliesFormat};
 ghost use Rattle.omega_cli_command.specs.Mistakes.{IsMistake};
 ghost use Rattle.omega_cli_command.specs.Task.{AsksFor};
 
@@ -15,6 +16,7 @@ mod realize;
 mod satisfies;
 mod show;
 mod solve;
+mod streams;
 mod synthesis;
 mod transform;
 mod two_automata;
@@ -46,6 +48,7 @@ pub(crate) fn task_for<'a>(
     subcommand: Subcommand,
     options: &Options<'_, 'a>,
 ) -> Result<Task, Mistake<'a>>
+    requires { ImpliesFormat subcommand options.now None }
     ensures asked { IfOk result (AsksFor subcommand options.now) }
     ensures mistaken { IfErr result (IsMistake subcommand options.now) }
 {
@@ -57,6 +60,7 @@ pub(crate) fn task_for<'a>(
         Subcommand::Verify => verify_task(alloc, options),
         Subcommand::Empty => empty_task(options),
         Subcommand::Game => Ok(Task::of(Command::OneText(OneText::Game))),
+        Subcommand::Automaton => Ok(Task::of(Command::OneText(OneText::CircuitAutomaton))),
         Subcommand::Accepts => accepts_task(alloc, options),
         Subcommand::Contained => contained_task(alloc, options),
         Subcommand::Equal => equal_task(alloc, options),

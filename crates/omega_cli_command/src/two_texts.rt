@@ -62,6 +62,8 @@ pub enum TwoTexts {
     ContainedStream {
         /// Whether a `no` is explained.
         explain: bool,
+        /// How many automata the stream is to have at least, or else the exit is that of a `no`.
+        at_least: u32,
     },
     /// Says whether the automata of the file and of the input accept the same words.
     Equal {

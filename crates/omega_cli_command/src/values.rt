@@ -3,7 +3,7 @@ ghost use Rattle.std.specs.Prelude.{◌≡◌, Bool, Some, IfOk, IfErr, MatchOpt
 ghost use Rattle.omega_text.specs.Limits.{most_number};
 ghost use Rattle.omega_cli_command.specs.Faulty.{IsFaulty};
 ghost use Rattle.omega_cli_command.specs.Options.{GivesFormat, GivesNode, text_of};
-ghost use Rattle.omega_cli_command.specs.Values.{Gives, GivesBudget, GivesEffort, GivesFlag};
+ghost use Rattle.omega_cli_command.specs.Values.{Gives, GivesAtLeast, GivesBudget, GivesEffort, GivesFlag};
 ghost use Rattle.omega_cli_command.specs.Values.{IsNumberText, IsPlayerText, IsSearcherText, IsTruthText};
 ghost use Rattle.omega_cli_command.specs.declared.options.OptionName.TheVariants as name;
 ghost use Rattle.omega_cli_command.specs.Flags.{IsNoTruth};
@@ -29,6 +29,8 @@ pub fn format_in<'a>(options: &Options<'_, 'a>) -> Result<Format, Mistake<'a>>
         Ok(Format::Pg)
     } else if text == "hoa" {
         Ok(Format::Hoa)
+    } else if text == "aiger" {
+        Ok(Format::Aiger)
     } else {
         Err(Mistake::Value(OptionName::Format, text, Reason::NoFormat))
     }
@@ -84,6 +86,20 @@ pub fn depth_in<'a>(options: &Options<'_, 'a>) -> Result<Option<u32>, Mistake<'a
     match number_in(text, 0, u64::from(MOST_NUMBER)) {
         Ok(depth) => Ok(Some(depth as u32)),
         Err(reason) => Err(Mistake::Value(OptionName::Depth, text, reason)),
+    }
+}
+
+/// Returns how many automata a stream is to have at least. The default is 0.
+pub fn at_least_in<'a>(options: &Options<'_, 'a>) -> Result<u32, Mistake<'a>>
+    ensures given { IfOk result (GivesAtLeast (text_of name.AtLeast options.now)) }
+    ensures faulty { IfErr result (IsFaulty name.AtLeast options.now) }
+{
+    let Some(text) = options.at_least else {
+        return Ok(0);
+    };
+    match number_in(text, 0, u64::from(MOST_NUMBER)) {
+        Ok(count) => Ok(count as u32),
+        Err(reason) => Err(Mistake::Value(OptionName::AtLeast, text, reason)),
     }
 }
 

@@ -120,10 +120,10 @@ plain_input bytes_of (Ok made) = refl
 plain_input bytes_of (Err refusal) = ap (λ (it : Refusal). Err it) (about_input_plain refusal)
 
 -- what refuses a stream that was read from memory, or one of its automata with that of the other text
-pub held_refused : (other input : List ℕ) (explain : Bool) (rest : Option (List ℕ)) (refused : Refused) → length input ≤ most_text + 1
+pub held_refused : (other input : List ℕ) (explain : Bool) (at_least : ℕ) (rest : Option (List ℕ)) (refused : Refused) → length input ≤ most_text + 1
     → failures_in refused.refusal ≡ 0 → stream.IsContainedStreamRefused other explain (Some input) rest refused
-    → RefusesTwoTexts (ContainedStream explain) other input refused
-held_refused other input explain rest refused short sound (inl either) = inl (go refused.text refused.refusal sound either)
+    → RefusesTwoTexts (ContainedStream explain at_least) other input refused
+held_refused other input explain at_least rest refused short sound (inl either) = inl (go refused.text refused.refusal sound either)
   where
     go : (text : Option Which) (refusal : Refusal) → failures_in refusal ≡ 0
         → IsAbout (λ refusal. (refusal ≡ Memory) ⊎ (refusal ≡ Io)) (IsAutomatonRefusal other)
@@ -133,5 +133,5 @@ held_refused other input explain rest refused short sound (inl either) = inl (go
     go None refusal sound (inr io) = absurd (let one : failures_in Io ≡ 0 = subst (λ r. failures_in r ≡ 0) io sound in cc)
     go (Some File) refusal sound h = h
     go (Some Input) refusal sound h = holds_of_read input short (λ read. stream.IsStreamRefused other read refusal) rest h
-held_refused other input explain rest refused short sound (inr pair) =
+held_refused other input explain at_least rest refused short sound (inr pair) =
     inr (holds_of_read input short (λ text. stream.RefusesPair other text explain refused) rest pair)

@@ -1,5 +1,6 @@
 -- Lemmas by theme.
 pub mod Answered
+pub mod CircuitRefusals
 pub mod Cut
 pub mod NameLines
 pub mod ProgressLines

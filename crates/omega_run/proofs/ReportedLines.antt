@@ -8,7 +8,7 @@ use Rattle.omega_answers_synth.specs.Observing as realize
 use Rattle.omega_cli_command.specs.declared.command.Command.{Command}
 use Rattle.omega_cli_command.specs.declared.command.Command.TheVariants as command
 use Rattle.omega_cli_command.specs.declared.one_text.OneText.{OneText}
-use Rattle.omega_cli_command.specs.declared.one_text.OneText.TheVariants.{Canon, CanonLeast, CanonPart, Check, Complement, DrawAutomaton, DrawGame, DrawLasso, DrawPart, Empty, EmptySearch, Game, Ltl, LtlDeterministic, RealizabilityGame, Realize, RealizeByLifting, Search, Show, ShowJson, Solve, Trim}
+use Rattle.omega_cli_command.specs.declared.one_text.OneText.TheVariants.{Canon, CanonCircuit, CanonLeast, CanonPart, Check, CheckCircuit, CircuitAutomaton, Complement, DrawAutomaton, DrawGame, DrawLasso, DrawPart, Empty, EmptySearch, Game, Ltl, LtlDeterministic, RealizabilityGame, Realize, RealizeByLifting, RealizeCircuit, Search, Show, ShowCircuit, ShowCircuitJson, ShowJson, Solve, Trim}
 use Rattle.omega_game_values.specs.declared.player.Player.{Player}
 use Rattle.omega_io.specs.declared.exit.Exit.{Exit}
 use Rattle.omega_io.specs.declared.refused.Refused.{Refused}
@@ -91,6 +91,12 @@ module _ {L : Type 0} (held : L → Option (List ℕ)) (failed : L → ℕ) (eve
   one_text_lines (DrawPart from depth) made kept = no_lines kept
   one_text_lines DrawAutomaton made kept = no_lines kept
   one_text_lines DrawLasso made kept = no_lines kept
+  one_text_lines CheckCircuit made kept = no_lines kept
+  one_text_lines ShowCircuit made kept = no_lines kept
+  one_text_lines ShowCircuitJson made kept = no_lines kept
+  one_text_lines (CanonCircuit binary) made kept = no_lines kept
+  one_text_lines CircuitAutomaton made kept = no_lines kept
+  one_text_lines (RealizeCircuit binary) made kept = no_lines kept
 
 -- of any command
 pub command_lines : {L : Type 0} (held : L → Option (List ℕ)) (failed : L → ℕ) (every budget sound : ℕ) (before after : L)

@@ -1,9 +1,12 @@
 -- What `--verbose` says besides of a refused text: one line about what is to be mended in it, its cause.
-use Rattle.std.specs.Prelude.{◌≡◌, ◌⊎◌, Bool, true, List, [], Option, None, Some, Result, Ok, Err, ℕ}
+use Rattle.std.specs.Prelude.{◌≡◌, ◌⊎◌, Bool, true, false, List, [], Option, None, Some, Result, Ok, Err, ℕ, codes}
+use Rattle.std.specs.Char.{is_ascii_whitespace}
+use Rattle.std.specs.List.{list_all}
 use Rattle.omega_text.specs.Refusal.{place_of}
 use Rattle.omega_text.specs.declared.refusal.Refusal.{Refusal}
 use Rattle.omega_text.specs.declared.refusal.Refusal.TheVariants.{Automaton, Game, Task, Text}
 use Rattle.omega_text.specs.declared.refusal.game.GameFault.TheVariants.{TooManyEdges, TooManyNodes}
+use Rattle.omega_text.specs.declared.refusal.text.TextFault.TheVariants.{Syntax}
 use Rattle.omega_text.specs.declared.refusal.task.TaskFault.TheVariants.{BadSolution, Controllable}
 use Rattle.omega_text.specs.declared.refusal.task.TaskFault.TheVariants.{NotDeterministic}
 use Rattle.omega_game_values.specs.Game.{Node}
@@ -19,9 +22,11 @@ use Rattle.omega_cli_command.specs.declared.formulas.Formulas.{Formulas}
 use Rattle.omega_cli_command.specs.declared.formulas.Formulas.TheVariants as asked
 use Rattle.omega_cli_command.specs.declared.one_text.OneText.{OneText}
 use Rattle.omega_cli_command.specs.declared.one_text.OneText.TheVariants.{Canon, CanonLeast, CanonPart}
-use Rattle.omega_cli_command.specs.declared.one_text.OneText.TheVariants.{Check, DrawGame, DrawPart, Ltl}
-use Rattle.omega_cli_command.specs.declared.one_text.OneText.TheVariants.{LtlDeterministic}
-use Rattle.omega_cli_command.specs.declared.one_text.OneText.TheVariants.{Search, Show, ShowJson, Solve}
+use Rattle.omega_cli_command.specs.declared.one_text.OneText.TheVariants.{CanonCircuit, Check, CheckCircuit}
+use Rattle.omega_cli_command.specs.declared.one_text.OneText.TheVariants.{CircuitAutomaton, DrawGame, DrawPart}
+use Rattle.omega_cli_command.specs.declared.one_text.OneText.TheVariants.{Ltl, LtlDeterministic}
+use Rattle.omega_cli_command.specs.declared.one_text.OneText.TheVariants.{Search, Show, ShowCircuit}
+use Rattle.omega_cli_command.specs.declared.one_text.OneText.TheVariants.{ShowCircuitJson, ShowJson, Solve}
 use Rattle.omega_cli_command.specs.declared.two_texts.TwoTexts.{TwoTexts}
 use Rattle.omega_cli_command.specs.declared.two_texts.TwoTexts.TheVariants as two
 use Rattle.omega_answers_game.specs.Verify.{IsJudgedGame}
@@ -44,6 +49,11 @@ kind_of_one (Solve player from) = kind.Game
 kind_of_one (Search from by effort) = kind.Game
 kind_of_one DrawGame = kind.Game
 kind_of_one (DrawPart from depth) = kind.Game
+kind_of_one CheckCircuit = kind.Circuit
+kind_of_one ShowCircuit = kind.Circuit
+kind_of_one ShowCircuitJson = kind.Circuit
+kind_of_one (CanonCircuit binary) = kind.Circuit
+kind_of_one CircuitAutomaton = kind.Circuit
 kind_of_one (Ltl negated) = kind.Other
 kind_of_one LtlDeterministic = kind.Other
 kind_of_one other = kind.Automata
@@ -72,7 +82,7 @@ kind_of_two asked which = kind.Automata
 abbrev pub kind_asked : Formulas → TextKind
 kind_asked (asked.Equal explain) = kind.Automata
 kind_asked (asked.Satisfies explain) = kind.Automata
-kind_asked (asked.SatisfiesStream explain) = kind.Automata
+kind_asked (asked.SatisfiesStream explain at_least) = kind.Automata
 kind_asked (asked.SatisfiesWord explain) = kind.Other
 
 -- the line that names a place of the text, or no line if there is no place
@@ -129,10 +139,26 @@ abbrev pub text_beside : Texts → Which → List ℕ
 text_beside read File = read.input
 text_beside read Input = read.other
 
--- with `--verbose` the cause of a refusal that is about one of the texts, which are written so and read as these; of
--- one that is about none there is no line
-abbrev pub IsCauseTold : (verbose : Bool) → Command → (written read : Texts) → Option Which
+-- whether a text that is to tell its format tells none: there is nothing but white space in it
+abbrev pub is_formless : (by_text : Bool) → List ℕ → Refusal → Bool
+is_formless true text (Text (Syntax at)) = list_all is_ascii_whitespace text
+is_formless by_text text refusal = false
+
+-- the line that says so
+abbrev pub formless_line : List ℕ
+formless_line = codes "omega: an empty text is of no format; --format says of which it is\n"
+
+-- the cause, if the text tells no format, or else
+abbrev pub IsCauseFor : (formless : Bool) → (List ℕ → Type 0) → List ℕ → Type 0
+IsCauseFor true IsLine line = line ≡ formless_line
+IsCauseFor false IsLine line = IsLine line
+
+-- with `--verbose` the cause of a refusal that is about one of the texts, which are written so and read as these, and
+-- of which that of the input is to tell its format or not; of a refusal that is about none there is no line
+abbrev pub IsCauseTold : (verbose by_text : Bool) → Command → (written read : Texts) → Option Which
     → Refusal → List ℕ → Type 0
-IsCauseTold true command written read (Some which) refusal line = IsCause (kind_of command which)
-    (text_of written which) (text_of read which) (text_beside read which) refusal line
-IsCauseTold verbose command written read about refusal line = line ≡ []
+IsCauseTold true by_text command written read (Some which) refusal =
+    IsCauseFor (is_formless by_text written.input refusal) (IsCause (kind_of command which)
+    (text_of written which) (text_of read which) (text_beside read which) refusal)
+IsCauseTold true by_text command written read None refusal = λ line. line ≡ []
+IsCauseTold false by_text command written read about refusal = λ line. line ≡ []

@@ -8,22 +8,23 @@ use Rattle.omega_io.specs.declared.exit.Exit.{Exit}
 use Rattle.omega_io.specs.declared.refused.Refused.{Refused}
 use Rattle.omega_io.specs.declared.refused.Which.{Which}
 use Rattle.omega_io.specs.declared.refused.Which.TheVariants.{File, Input}
-use Rattle.omega_answers_synth.specs.FormulaController.{IsFormulaControllerAnswer, IsFormulaControllerRefused}
+use Rattle.omega_aiger.specs.Beginnings.{begins_as_circuit}
 use Rattle.omega_answers_synth.specs.FormulaCounter.{IsFormulaCounterAnswer, IsFormulaCounterRefused}
 use Rattle.omega_answers_synth.specs.Outputs.{NameLists}
+use Rattle.omega_run.specs.Systems.{IsFormulaSystemAnswer, IsFormulaSystemRefused}
 
 -- what the command makes of the text of the input for the formula of the other: how it ends and its output
 abbrev pub AnswersFormulaJudge : FormulaJudge → NameLists → (formula text : List ℕ) → Exit → List ℕ
     → Type 0
 AnswersFormulaJudge (Controller explain) lists formula text =
-    IsFormulaControllerAnswer formula lists text explain
+    IsFormulaSystemAnswer (begins_as_circuit text) formula lists text explain
 AnswersFormulaJudge (CounterStrategy explain) lists formula text =
     IsFormulaCounterAnswer formula lists text explain
 
 -- why the two texts are refused, and which of them that is about
 abbrev pub RefusesFormulaJudge : FormulaJudge → NameLists → (formula text : List ℕ) → Refused → Type 0
 RefusesFormulaJudge (Controller explain) lists formula text =
-    IsFormulaControllerRefused formula lists text
+    IsFormulaSystemRefused (begins_as_circuit text) formula lists text
 RefusesFormulaJudge (CounterStrategy explain) lists formula text =
     IsFormulaCounterRefused formula lists text
 

@@ -28,7 +28,7 @@ use Rattle.omega_run.specs.declared.text_kind.TextKind.TheVariants as kind
 abbrev pub input_name : Formulas → List ℕ
 input_name (Equal explain) = codes "automaton"
 input_name (Satisfies explain) = codes "automaton"
-input_name (SatisfiesStream explain) = codes "automaton"
+input_name (SatisfiesStream explain at_least) = codes "automaton"
 input_name (SatisfiesWord explain) = codes "word"
 
 -- the line that `--verbose` adds to that of a refusal: what it is about; of several formulas, which. The question of a
@@ -59,7 +59,7 @@ AreUnmentionedIn (Equal explain) verbose formulas input names =
     AreUnmentioned verbose formulas input names
 AreUnmentionedIn (Satisfies explain) verbose formulas input names =
     AreUnmentioned verbose formulas input names
-AreUnmentionedIn (SatisfiesStream explain) verbose formulas input names = names ≡ []
+AreUnmentionedIn (SatisfiesStream explain at_least) verbose formulas input names = names ≡ []
 AreUnmentionedIn (SatisfiesWord explain) verbose formulas input names = names ≡ []
 
 -- the lines for a refusal: one line, and with `--verbose` what it is about

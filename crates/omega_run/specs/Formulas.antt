@@ -13,14 +13,20 @@ use Rattle.omega_answers_formula.specs.SatisfiesStream.{AreSatisfiesStreamAnswer
 use Rattle.omega_answers_formula.specs.SatisfiesStream.{AreSatisfiesStreamRefused}
 use Rattle.omega_answers_formula.specs.SatisfiesWord.{AreSatisfiesWordAnswers, AreSatisfiesWordRefused}
 use Rattle.omega_answers_formula.specs.declared.refused_formulas.RefusedFormulas.{RefusedFormulas}
+use Rattle.omega_run.specs.Streams.{counted_exit}
+
+-- the answers to so many automata, after which the command would end so, and how it ends then
+abbrev pub EndsAfter : (at_least : ℕ) → (Exit → List ℕ → (automata : ℕ) → Type 0) → Exit → List ℕ → Type 0
+EndsAfter at_least AreAnswers exit output = (own : Exit) × (automata : ℕ)
+    × AreAnswers own output automata × (exit ≡ counted_exit at_least automata own)
 
 -- what the command makes of the texts of formulas and of that of the input: how it ends and its output
 abbrev pub AnswersFormulas : Formulas → (formulas : List (List ℕ)) → (input : List ℕ)
     → Exit → List ℕ → Type 0
 AnswersFormulas (Equal explain) formulas input = AreEqualAnswers formulas input explain
 AnswersFormulas (Satisfies explain) formulas input = AreSatisfiesAnswers formulas input explain
-AnswersFormulas (SatisfiesStream explain) formulas input =
-    AreSatisfiesStreamAnswers formulas input explain
+AnswersFormulas (SatisfiesStream explain at_least) formulas input =
+    EndsAfter at_least (AreSatisfiesStreamAnswers formulas input explain)
 AnswersFormulas (SatisfiesWord explain) formulas input =
     AreSatisfiesWordAnswers formulas input explain
 
@@ -29,7 +35,7 @@ abbrev pub RefusesFormulas : Formulas → (formulas : List (List ℕ)) → (inpu
     → RefusedFormulas → Type 0
 RefusesFormulas (Equal explain) formulas input = AreEqualRefused formulas input explain
 RefusesFormulas (Satisfies explain) formulas input = AreSatisfiesRefused formulas input explain
-RefusesFormulas (SatisfiesStream explain) formulas input =
+RefusesFormulas (SatisfiesStream explain at_least) formulas input =
     AreSatisfiesStreamRefused formulas input explain
 RefusesFormulas (SatisfiesWord explain) formulas input =
     AreSatisfiesWordRefused formulas input explain

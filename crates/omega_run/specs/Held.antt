@@ -42,7 +42,8 @@ abbrev pub IsReportedSo : Task → Command → (written read : Texts) → Failur
     → ℕ → (List ℕ → Type 0) → Type 0
 IsReportedSo task command written read failure outcome status tells =
     ReportsCause (lines_about task.verbose failure command (text_in outcome))
-    (IsCauseTold task.verbose command written read (text_in outcome)) (plain outcome) status tells
+    (IsCauseTold task.verbose task.by_text command written read (text_in outcome)) (plain outcome)
+    status tells
 
 -- the command made its answer to the texts that are read, with this progress and this search; it was written, and what
 -- came of that was reported: the lines of the progress, those on the search and those of a refusal are one text

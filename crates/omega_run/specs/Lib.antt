@@ -10,6 +10,7 @@ pub use Rattle.omega_io.specs.Refused
 pub mod AnswerWriting
 pub mod Answers
 pub mod Causes
+pub mod CircuitForms
 pub mod Files
 pub mod Formats
 pub mod FormulaRun
@@ -27,6 +28,7 @@ pub mod Run
 pub mod Searching
 pub mod Streams
 pub mod Synthesis
+pub mod Systems
 pub mod TwoTexts
 pub mod World
 pub mod private

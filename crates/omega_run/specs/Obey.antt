@@ -5,10 +5,10 @@ use Rattle.std.specs.Io.KnownBytes.{Appends}
 use Rattle.omega_text.specs.Limits.{most_text}
 use Rattle.omega_text.specs.declared.refusal.Refusal.{Refusal}
 use Rattle.omega_text.specs.declared.refusal.Refusal.TheVariants.{Io}
-use Rattle.omega_cli_command.specs.Formats.{for_automata}
+use Rattle.omega_cli_command.specs.Formats.{for_automata, for_circuits}
 use Rattle.omega_cli_command.specs.declared.command.Command.{Command}
 use Rattle.omega_cli_command.specs.declared.command.Command.TheVariants.{Formulas, Stream}
-use Rattle.omega_cli_command.specs.declared.format.Format.TheVariants.{Hoa, Pg}
+use Rattle.omega_cli_command.specs.declared.format.Format.TheVariants.{Aiger, Hoa, Pg}
 use Rattle.omega_cli_command.specs.declared.request.Request.{Request}
 use Rattle.omega_cli_command.specs.declared.request.Request.TheVariants.{Do, Fault, Help}
 use Rattle.omega_cli_command.specs.declared.task.Task.{Task}
@@ -39,11 +39,13 @@ pub record IsFileRefused (task : Task) (status : ℕ) (world : World) : Type 0 w
 
 -- ---- the texts
 
--- the command of a task for this text: if the text tells the format, that for automata where it is one of automata
+-- the command of a task for this text: if the text tells the format, that for automata where it is one of automata, and
+-- that for circuits where it is one of a circuit
 abbrev pub IsCommandFor : Task → (by_text : Bool) → (text : List ℕ) → Command → Type 0
 IsCommandFor task false text command = command ≡ task.command
 IsCommandFor task true text command = (IsFormatOf text Pg × (command ≡ task.command))
-    ⊎ (IsFormatOf text Hoa × (command ≡ for_automata task.command))
+    ⊎ ((IsFormatOf text Hoa × (command ≡ for_automata task.command))
+    ⊎ (IsFormatOf text Aiger × (command ≡ for_circuits task.command)))
 
 -- the command for the format of the input's text was done with these texts in memory
 abbrev pub IsDoneForFormat : Task → (other input : List ℕ) → ℕ → (List ℕ → Type 0)

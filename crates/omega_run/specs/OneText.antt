@@ -4,18 +4,28 @@ use Rattle.omega_text.specs.declared.refusal.Refusal.{Refusal}
 use Rattle.omega_answers_game.specs.Refusing.{IsRefusal}
 use Rattle.omega_game_values.specs.declared.player.Player.{Player}
 use Rattle.omega_cli_command.specs.declared.one_text.OneText.{OneText}
-use Rattle.omega_cli_command.specs.declared.one_text.OneText.TheVariants.{Canon, CanonLeast, CanonPart}
-use Rattle.omega_cli_command.specs.declared.one_text.OneText.TheVariants.{Check, Complement, DrawAutomaton}
-use Rattle.omega_cli_command.specs.declared.one_text.OneText.TheVariants.{DrawGame, DrawLasso, DrawPart}
-use Rattle.omega_cli_command.specs.declared.one_text.OneText.TheVariants.{Empty, EmptySearch, Game, Ltl}
-use Rattle.omega_cli_command.specs.declared.one_text.OneText.TheVariants.{LtlDeterministic}
+use Rattle.omega_cli_command.specs.declared.one_text.OneText.TheVariants.{Canon, CanonCircuit, CanonLeast}
+use Rattle.omega_cli_command.specs.declared.one_text.OneText.TheVariants.{CanonPart, Check, CheckCircuit}
+use Rattle.omega_cli_command.specs.declared.one_text.OneText.TheVariants.{CircuitAutomaton, Complement}
+use Rattle.omega_cli_command.specs.declared.one_text.OneText.TheVariants.{DrawAutomaton, DrawGame, DrawLasso}
+use Rattle.omega_cli_command.specs.declared.one_text.OneText.TheVariants.{DrawPart, Empty, EmptySearch, Game}
+use Rattle.omega_cli_command.specs.declared.one_text.OneText.TheVariants.{Ltl, LtlDeterministic}
 use Rattle.omega_cli_command.specs.declared.one_text.OneText.TheVariants.{RealizabilityGame, Realize}
-use Rattle.omega_cli_command.specs.declared.one_text.OneText.TheVariants.{RealizeByLifting, Search, Show}
-use Rattle.omega_cli_command.specs.declared.one_text.OneText.TheVariants.{ShowJson, Solve, Trim}
+use Rattle.omega_cli_command.specs.declared.one_text.OneText.TheVariants.{RealizeByLifting, RealizeCircuit}
+use Rattle.omega_cli_command.specs.declared.one_text.OneText.TheVariants.{Search, Show, ShowCircuit}
+use Rattle.omega_cli_command.specs.declared.one_text.OneText.TheVariants.{ShowCircuitJson, ShowJson, Solve}
+use Rattle.omega_cli_command.specs.declared.one_text.OneText.TheVariants.{Trim}
 use Rattle.omega_io.specs.declared.exit.Exit.{Exit}
 use Rattle.omega_io.specs.declared.exit.Exit.TheVariants.{Done}
+use Rattle.omega_aiger.specs.Text.{IsCircuitTextRefusal}
 use Rattle.omega_answers_automaton.specs.Complement.{IsComplementAnswer, IsComplementRefusal}
 use Rattle.omega_answers_automaton.specs.Trim.{IsTrimAnswer, IsTrimAnswerRefusal}
+use Rattle.omega_answers_circuit.specs.Canon.{IsCircuitCanonAnswer, IsCircuitCanonRefusal}
+use Rattle.omega_answers_circuit.specs.Check.{IsCircuitCheckAnswer}
+use Rattle.omega_answers_circuit.specs.Show.{IsCircuitShowAnswer}
+use Rattle.omega_answers_circuit.specs.ShowJson.{IsCircuitShowJsonAnswer}
+use Rattle.omega_answers_circuit.specs.WinningCircuit.{IsWinningCircuitAnswer, IsWinningCircuitRefusal}
+use Rattle.omega_answers_circuit.specs.WriteAutomaton.{IsCircuitAutomatonAnswer, IsCircuitAutomatonRefusal}
 use Rattle.omega_answers_empty.specs.Draw.{IsAutomatonDrawingAnswer, IsLassoDrawingAnswer}
 use Rattle.omega_answers_empty.specs.Game.{IsEmptinessGameAnswer, IsEmptinessGameRefusal}
 use Rattle.omega_answers_empty.specs.declared.lines.Lines.{Lines}
@@ -37,10 +47,12 @@ use Rattle.omega_answers_game.specs.solve.Refusing.{IsSolveRefusal}
 use Rattle.omega_answers_game.specs.solve.Solving.{IsSolveAnswer}
 use Rattle.omega_answers_synth.specs.Decide.{IsDecisionAnswer}
 use Rattle.omega_answers_synth.specs.Game.{IsGameAnswer, IsGameRefusal}
+use Rattle.omega_answers_synth.specs.Observing.{IsLiftedDecisionAnswer, IsLiftedWinnerAnswer}
 use Rattle.omega_answers_synth.specs.Refusing.{IsRealizeRefusal}
 use Rattle.omega_answers_synth.specs.Winner.{IsWinnerAnswer}
 use Rattle.omega_answers.specs.Alone.{IsAutomatonRefusal}
 use Rattle.omega_solve.specs.Limits.{most_lifts}
+use Rattle.omega_run.specs.CircuitForms.{form_for}
 
 -- for which players a game is solved: for one, or for both if none is named
 abbrev pub asked_for : Option Player → Asked
@@ -92,9 +104,9 @@ AnswersOneText (Realize false) budget text =
 AnswersOneText (Realize true) budget text =
     Concludes (IsWinnerAnswer text) (IsRealizeRefusal text most_lifts)
 AnswersOneText (RealizeByLifting false) budget text =
-    Concludes (IsDecisionAnswer text) (IsRealizeRefusal text budget)
+    Concludes (IsLiftedDecisionAnswer text budget) (IsRealizeRefusal text budget)
 AnswersOneText (RealizeByLifting true) budget text =
-    Concludes (IsWinnerAnswer text) (IsRealizeRefusal text budget)
+    Concludes (IsLiftedWinnerAnswer text budget) (IsRealizeRefusal text budget)
 AnswersOneText RealizabilityGame budget text = Replies (IsGameAnswer text) (IsGameRefusal text)
 AnswersOneText DrawGame budget text = Replies (IsGameDrawingAnswer text None None) (IsRefusal text)
 AnswersOneText DrawAutomaton budget text =
@@ -102,3 +114,14 @@ AnswersOneText DrawAutomaton budget text =
 AnswersOneText (DrawPart from depth) budget text =
     Replies (IsGameDrawingAnswer text (Some from) depth) (IsPartTextRefusal text from)
 AnswersOneText DrawLasso budget text = Replies (IsLassoDrawingAnswer text) (IsEmptySearchRefusal text)
+AnswersOneText CheckCircuit budget text = Replies (IsCircuitCheckAnswer text) (IsCircuitTextRefusal text)
+AnswersOneText ShowCircuit budget text = Replies (IsCircuitShowAnswer text) (IsCircuitTextRefusal text)
+AnswersOneText ShowCircuitJson budget text =
+    Replies (IsCircuitShowJsonAnswer text) (IsCircuitTextRefusal text)
+AnswersOneText (CanonCircuit binary) budget text =
+    Replies (IsCircuitCanonAnswer (form_for binary) text) (IsCircuitCanonRefusal (form_for binary) text)
+AnswersOneText CircuitAutomaton budget text =
+    Replies (IsCircuitAutomatonAnswer text) (IsCircuitAutomatonRefusal text)
+AnswersOneText (RealizeCircuit binary) budget text =
+    Concludes (IsWinningCircuitAnswer (form_for binary) text)
+    (IsWinningCircuitRefusal (form_for binary) text)

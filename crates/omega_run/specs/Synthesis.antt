@@ -3,12 +3,15 @@ use Rattle.std.specs.Prelude.{List, Result, ℕ, option_map}
 use Rattle.omega_text.specs.declared.refusal.Refusal.{Refusal}
 use Rattle.omega_cli_command.specs.declared.partition.Partition.{Partition}
 use Rattle.omega_cli_command.specs.declared.synthesis.Synthesis.{Synthesis}
-use Rattle.omega_cli_command.specs.declared.synthesis.Synthesis.TheVariants.{Controller, Decide, Game}
+use Rattle.omega_cli_command.specs.declared.synthesis.Synthesis.TheVariants.{Circuit, Controller, Decide}
+use Rattle.omega_cli_command.specs.declared.synthesis.Synthesis.TheVariants.{Game}
 use Rattle.omega_io.specs.declared.exit.Exit.{Exit}
+use Rattle.omega_answers_circuit.specs.FormulaCircuit.{IsFormulaCircuitRefusal, IsFormulaCircuitWritten}
 use Rattle.omega_answers_synth.specs.FormulaGame.{IsFormulaGameAnswer, IsFormulaGameRefusal}
 use Rattle.omega_answers_synth.specs.FormulaRefusing.{IsFormulaRealizeRefusal}
 use Rattle.omega_answers_synth.specs.FormulaWinner.{IsFormulaRealizeAnswer, IsFormulaWinnerAnswer}
 use Rattle.omega_answers_synth.specs.Outputs.{NameLists}
+use Rattle.omega_run.specs.CircuitForms.{form_for}
 use Rattle.omega_run.specs.OneText.{Concludes, Replies}
 
 -- the lists of names of a command line, each if it is given
@@ -24,5 +27,8 @@ AnswersSynthesis Decide lists text =
     Concludes (IsFormulaRealizeAnswer text lists) (IsFormulaRealizeRefusal text lists)
 AnswersSynthesis Controller lists text =
     Concludes (IsFormulaWinnerAnswer text lists) (IsFormulaRealizeRefusal text lists)
+AnswersSynthesis (Circuit binary) lists text =
+    Concludes (IsFormulaCircuitWritten (form_for binary) text lists)
+    (IsFormulaCircuitRefusal (form_for binary) text lists)
 AnswersSynthesis Game lists text =
     Replies (IsFormulaGameAnswer text lists) (IsFormulaGameRefusal text lists)

@@ -15,6 +15,7 @@ use Rattle.omega_io.specs.declared.refused.Which.{Which}
 use Rattle.omega_io.specs.declared.refused.Which.TheVariants.{File, Input}
 use Rattle.omega_io.specs.declared.refused.Refused.{Refused}
 use Rattle.omega_io.specs.Refused.{IsRefusedOf}
+use Rattle.omega_aiger.specs.Beginnings.{begins_as_circuit}
 use Rattle.omega_answers_automaton.specs.Join.{IsJoinAnswer, IsJoinRefused}
 use Rattle.omega_answers_automaton.specs.Meet.{IsMeetAnswer, IsMeetRefused}
 use Rattle.omega_answers_automaton.specs.TrimmedMeet.{IsMeetTrimmedAnswer, IsMeetTrimmedRefused}
@@ -28,10 +29,10 @@ use Rattle.omega_answers_inclusion.specs.Contained.{IsContainedAnswer, IsContain
 use Rattle.omega_answers_inclusion.specs.Equal.{IsEqualAnswer, IsEqualRefused}
 use Rattle.omega_answers_stream_questions.specs.Contained as stream
 use Rattle.omega_answers_synth.specs.Counter.{IsCounterAnswer, IsCounterRefused}
-use Rattle.omega_answers_synth.specs.Verify.{IsControllerAnswer, IsControllerRefused}
 use Rattle.omega_answers_walk.specs.Draw.{IsWalkDrawingAnswer, RefusesWalk}
 use Rattle.omega_answers_walk.specs.Verify.{IsNamedVerifyAnswer}
 use Rattle.omega_answers.specs.Alone.{IsAutomatonRefusal}
+use Rattle.omega_run.specs.Systems.{IsSystemAnswer, IsSystemRefused}
 use Rattle.omega_run.specs.Streams.{EndsEach}
 
 -- the text of the file is refused, or else that of the stream, or else an automaton of the stream with that of the file
@@ -51,7 +52,7 @@ AnswersTwoTexts (VerifyNamed from) other input = IsNamedVerifyAnswer other from 
 AnswersTwoTexts (VerifyWinners from explain) other input = IsWinnersAnswer other from input explain
 AnswersTwoTexts (VerifyLasso explain) other input = IsLassoAnswer other input explain
 AnswersTwoTexts (VerifyController explain) other input =
-    IsControllerAnswer other input explain
+    IsSystemAnswer (begins_as_circuit input) other input explain
 AnswersTwoTexts (VerifyCounterStrategy explain) other input = IsCounterAnswer other input explain
 AnswersTwoTexts (Accepts explain) other input = IsAcceptsAnswer other input explain
 AnswersTwoTexts (AcceptsSome explain) other input = IsAcceptsSomeAnswer other input explain
@@ -59,8 +60,8 @@ AnswersTwoTexts (Meet false) other input = IsDoneWith (IsMeetAnswer other input)
 AnswersTwoTexts (Meet true) other input = IsDoneWith (IsMeetTrimmedAnswer other input)
 AnswersTwoTexts Join other input = IsDoneWith (IsJoinAnswer other input)
 AnswersTwoTexts (Contained explain) other input = IsContainedAnswer other input explain
-AnswersTwoTexts (ContainedStream explain) other input =
-    EndsEach true (stream.AreContainedAnswers other input explain)
+AnswersTwoTexts (ContainedStream explain at_least) other input =
+    EndsEach true at_least (stream.AreContainedAnswers other input explain)
 AnswersTwoTexts (Equal explain) other input = IsEqualAnswer other input explain
 AnswersTwoTexts (DrawSolution from depth legend) other input =
     IsDoneWith (IsSolutionDrawingAnswer input other from depth legend)
@@ -91,8 +92,8 @@ name_of Join File = codes "other automaton"
 name_of Join Input = codes "automaton"
 name_of (Contained explain) File = codes "other automaton"
 name_of (Contained explain) Input = codes "automaton"
-name_of (ContainedStream explain) File = codes "other automaton"
-name_of (ContainedStream explain) Input = codes "automaton"
+name_of (ContainedStream explain at_least) File = codes "other automaton"
+name_of (ContainedStream explain at_least) Input = codes "automaton"
 name_of (Equal explain) File = codes "other automaton"
 name_of (Equal explain) Input = codes "automaton"
 name_of (DrawSolution from depth legend) File = codes "solution"
@@ -109,7 +110,8 @@ RefusesTwoTexts (VerifyNamed from) other input =
 RefusesTwoTexts (VerifyWinners from explain) other input =
     IsRefusedOf (IsWinnersGameRefusal other from input) (RefusesWinners other from input)
 RefusesTwoTexts (VerifyLasso explain) other input = IsLassoRefused other input
-RefusesTwoTexts (VerifyController explain) other input = IsControllerRefused other input
+RefusesTwoTexts (VerifyController explain) other input =
+    IsSystemRefused (begins_as_circuit input) other input
 RefusesTwoTexts (VerifyCounterStrategy explain) other input = IsCounterRefused other input
 RefusesTwoTexts (Accepts explain) other input = IsAcceptsRefused other input
 RefusesTwoTexts (AcceptsSome explain) other input = IsAcceptsSomeRefused other input
@@ -117,7 +119,8 @@ RefusesTwoTexts (Meet false) other input = IsMeetRefused other input
 RefusesTwoTexts (Meet true) other input = IsMeetTrimmedRefused other input
 RefusesTwoTexts Join other input = IsJoinRefused other input
 RefusesTwoTexts (Contained explain) other input = IsContainedRefused other input
-RefusesTwoTexts (ContainedStream explain) other input = RefusesContainedStream other input explain
+RefusesTwoTexts (ContainedStream explain at_least) other input =
+    RefusesContainedStream other input explain
 RefusesTwoTexts (Equal explain) other input = IsEqualRefused other input
 RefusesTwoTexts (DrawSolution from depth legend) other input =
     IsRefusedOf (RefusesSolution input from other) (IsJudgedGameRefusal input from)

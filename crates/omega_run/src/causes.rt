@@ -1,7 +1,10 @@
 //! What is to be mended in a refused text: the cause of its refusal, in one line.
+ghost use Rattle.std.specs.Char.{is_ascii_whitespace};
+ghost use Rattle.std.specs.List.{list_all};
 ghost use Rattle.std.specs.Prelude.{◌≡◌, ◌⊎◌, [], IfOk};
 ghost use Rattle.omega_run.specs.Answers.{both_texts};
-ghost use Rattle.omega_run.specs.Causes.{IsCause, IsCauseBeside, IsCauseTold, line_at};
+ghost use Rattle.omega_run.specs.Causes.{IsCause, IsCauseBeside, IsCauseTold, formless_line};
+ghost use Rattle.omega_run.specs.Causes.{is_formless, kind_of, line_at, text_beside, text_of};
 
 use crate::text_kind::{TextKind, kind_of};
 use crate::texts::Held;
@@ -9,13 +12,19 @@ use omega_answers_game::judged_game;
 use omega_hoa_diagnostics::{automaton_cause, choice_cause, item_cause};
 use omega_io::{Refusal, Refused, Which};
 use omega_pg_diagnostics::{game_cause, place_line, solution_cause};
-use omega_text::{GameFault, TaskFault};
+use omega_text::{GameFault, TaskFault, TextFault};
 use std::alloc::Global;
 
 /// Returns the cause of a refusal, or no bytes if there is no line to write or no memory for it, or `verbose` is not
-/// set.
-pub(crate) fn cause_about(alloc: Global, held: Held<'_>, verbose: bool, refused: Refused) -> Vec<u8>
-    ensures { IsCauseTold verbose held.entry.command.now
+/// set. If `by_text` is set, the text of the input was to tell its format.
+pub(crate) fn cause_about(
+    alloc: Global,
+    held: Held<'_>,
+    by_text: bool,
+    verbose: bool,
+    refused: Refused,
+) -> Vec<u8>
+    ensures { IsCauseTold verbose by_text held.entry.command.now
         (both_texts held.entry.written.other.now held.entry.written.input.now)
         (both_texts held.entry.read.other.now held.entry.read.input.now)
         refused.text refused.refusal result.items
@@ -27,15 +36,63 @@ pub(crate) fn cause_about(alloc: Global, held: Held<'_>, verbose: bool, refused:
     let Some(which) = refused.text else {
         return Vec::new(alloc);
     };
+    let cause = if is_formless(by_text, held.written.input, refused.refusal) {
+        formless_line(alloc)
+    } else {
+        cause_in_text(alloc, held, which, refused.refusal)
+    };
+    match cause {
+        Ok(line) => line,
+        Err(_) => Vec::new(alloc),
+    }
+}
+
+/// Whether a text that is to tell its format, if `by_text` is set, tells none: there is nothing but white space in it.
+fn is_formless(by_text: bool, text: &[u8], refusal: Refusal) -> bool
+    ensures { result ≡ is_formless by_text text.now refusal }
+{
+    match refusal {
+        Refusal::Text(TextFault::Syntax { .. }) if by_text => is_blank(text),
+        _ => false,
+    }
+}
+
+/// Whether a text has nothing but white space.
+fn is_blank(text: &[u8]) -> bool
+    ensures { result ≡ list_all is_ascii_whitespace text.now }
+{
+    text.iter().all(|byte| byte.is_ascii_whitespace())
+}
+
+/// Returns the line that says that a text tells no format.
+fn formless_line(alloc: Global) -> Result<Vec<u8>, Refusal>
+    ensures { IfOk result (λ line. line.items ≡ formless_line) }
+{
+    Ok(Vec::from_slice(
+        alloc,
+        b"omega: an empty text is of no format; --format says of which it is\n",
+    )?)
+}
+
+/// Returns the cause of the refusal of this one of the texts of a command, or no bytes if there is no line to write.
+fn cause_in_text(
+    alloc: Global,
+    held: Held<'_>,
+    which: Which,
+    refusal: Refusal,
+) -> Result<Vec<u8>, Refusal>
+    ensures { IfOk result (λ line. IsCause (kind_of held.entry.command.now which)
+        (text_of (both_texts held.entry.written.other.now held.entry.written.input.now) which)
+        (text_of (both_texts held.entry.read.other.now held.entry.read.input.now) which)
+        (text_beside (both_texts held.entry.read.other.now held.entry.read.input.now) which)
+        refusal line.items) }
+{
     let kind = kind_of(held.command, which);
     let (written, text, beside) = match which {
         Which::File => (held.written.other, held.read.other, held.read.input),
         Which::Input => (held.written.input, held.read.input, held.read.other),
     };
-    match cause_in(alloc, kind, written, text, beside, refused.refusal) {
-        Ok(line) => line,
-        Err(_) => Vec::new(alloc),
-    }
+    cause_in(alloc, kind, written, text, beside, refusal)
 }
 
 /// Returns the cause of the refusal of a text that is `written` so and read as `text`, beside another text, or no bytes

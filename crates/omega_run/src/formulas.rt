@@ -2,22 +2,25 @@
 ghost use Rattle.std.specs.Prelude.{◌≡◌, ◌⊎◌, ◌++◌, ◌-◌, ◌^◌, ◌<◌, ◌≤◌, [], Err, IfErr, IfOk};
 ghost use Rattle.std.specs.Prelude.{IsOkUnless, OnOk, codes, decimal, length, nat_lt};
 ghost use Rattle.omega_text.specs.declared.refusal.Refusal.TheVariants.{Memory};
+ghost use Rattle.omega_cli_command.specs.declared.formulas.Formulas.TheVariants.{SatisfiesStream};
 ghost use Rattle.omega_run.specs.FormulaRun.{AreAsked, AreWritten, IsFormulaCause, about_line, formula_lines};
 ghost use Rattle.omega_run.specs.FormulaRun.{AreUnmentionedIn, input_name, name_line, name_lines};
 ghost use Rattle.omega_run.specs.FormulaRun.{text_numbered};
 ghost use Rattle.omega_run.specs.private.steps.Telling.{TellsOn};
 ghost use Rattle.omega_run.specs.Formulas.{AnswersFormulas, IsUnnumbered, RefusesFormulas};
 ghost use Rattle.omega_run.specs.Report.{ReportsCause};
+ghost use Rattle.omega_run.specs.Streams.{counted_exit};
 ghost use Rattle.omega_run.specs.World.{tells_of, written_to};
 
 use crate::causes::cause_in;
 use crate::progress::tell_on;
 use crate::reporting::{line_in, report, report_lines};
+use crate::stream::counted_exit;
 use crate::text_kind::{TextKind, kind_asked};
 use crate::writing::write_made;
 use omega_answers_formula::{
-    About, FormulaAnswers, RefusedFormulas, equal_each, satisfies_each, satisfies_stream_each,
-    satisfies_word_each,
+    About, FormulaAnswers, RefusedFormulas, StreamAnswers, equal_each, satisfies_each,
+    satisfies_stream_each, satisfies_word_each,
 };
 use omega_cli_command::{ByteString, Formulas};
 use omega_io::{Exit, Output, Refusal, Refused, exit_code, failure_of};
@@ -42,10 +45,52 @@ fn answer_formulas(
     match asked {
         Formulas::Equal { explain } => equal_each(alloc, formulas, input, explain, names),
         Formulas::Satisfies { explain } => satisfies_each(alloc, formulas, input, explain, names),
-        Formulas::SatisfiesStream { explain } => satisfies_stream_each(
-            alloc, formulas, input, explain,
-        ),
+        Formulas::SatisfiesStream { explain, at_least } => {
+            satisfies_counted(alloc, formulas, input, explain, at_least)
+        }
         Formulas::SatisfiesWord { explain } => satisfies_word_each(alloc, formulas, input, explain),
+    }
+}
+
+/// Returns what `satisfies` answers for a stream that is to have `at_least` so many automata, or why the texts are
+/// refused.
+fn satisfies_counted(
+    alloc: Global,
+    formulas: &[ByteString],
+    input: &[u8],
+    explain: bool,
+    at_least: u32,
+) -> Result<FormulaAnswers, RefusedFormulas>
+    ensures answered { IfOk result (λ made. AnswersFormulas (SatisfiesStream explain at_least)
+        formulas.now input.now made.exit made.text.items) }
+    ensures unmentioned { IfOk result (λ made. made.unmentioned.items ≡ []) }
+    ensures refused { IfErr result
+        (RefusesFormulas (SatisfiesStream explain at_least) formulas.now input.now) }
+{
+    match satisfies_stream_each(alloc, formulas, input, explain) {
+        Ok(made) => {
+            let StreamAnswers { answers, automata } = made;
+            Ok(counted_answers(answers, automata, at_least))
+        }
+        Err(refused) => Err(refused),
+    }
+}
+
+/// Returns `answers` to so many `automata`, with how the command ends that asks for `at_least` so many.
+fn counted_answers(answers: FormulaAnswers, automata: usize, at_least: u32) -> FormulaAnswers
+    ensures exit { result.exit ≡ counted_exit at_least automata answers.exit }
+    ensures text { result.text ≡ answers.text }
+    ensures unmentioned { result.unmentioned ≡ answers.unmentioned }
+{
+    let FormulaAnswers {
+        exit,
+        text,
+        unmentioned,
+    } = answers;
+    FormulaAnswers {
+        exit: counted_exit(exit, automata, at_least),
+        text,
+        unmentioned,
     }
 }
 

@@ -1,6 +1,6 @@
 //! A task is done with texts that are in memory.
 ghost use Rattle.std.specs.Prelude.{◌≡◌, ◌+◌, ◌-◌, ◌^◌, ◌<◌, ◌≤◌, IfNone, IfSome, length, take};
-ghost use Rattle.omega_cli_command.specs.Formats.{for_automata};
+ghost use Rattle.omega_cli_command.specs.Formats.{for_automata, for_circuits};
 ghost use Rattle.omega_text.specs.Limits.{most_text};
 ghost use Rattle.omega_solve.specs.Limits.{most_lifts};
 ghost use Rattle.omega_run.specs.Answers.{both_texts};
@@ -85,7 +85,8 @@ fn run_for_format<W: Output, E: Output>(
     }
 }
 
-/// Returns the command for automata in place of that of a task, if the text is to tell the format and tells it so.
+/// Returns the command for automata or for circuits in place of that of a task, if the text is to tell the format and
+/// tells it so.
 fn command_by_text(task: &Task, text: &[u8]) -> Option<Command>
     requires { length text.now ≤ most_text + 1 }
     ensures other { IfSome result (IsCommandFor task.now task.now.by_text text.now) }
@@ -97,6 +98,7 @@ fn command_by_text(task: &Task, text: &[u8]) -> Option<Command>
     match format_of(text) {
         Format::Pg => None,
         Format::Hoa => command_for_automata(&task.command),
+        Format::Aiger => command_for_circuits(&task.command),
     }
 }
 
@@ -107,6 +109,21 @@ fn command_for_automata(command: &Command) -> Option<Command>
 {
     match command {
         Command::OneText(one) => Some(Command::OneText(*one).for_automata()),
+        Command::Stream(_) => None,
+        Command::TwoTexts(_, _) => None,
+        Command::Formulas(_, _) => None,
+        Command::Synthesis(_, _) => None,
+        Command::FormulaJudge(_, _, _) => None,
+    }
+}
+
+/// Returns the command for circuits in place of one for games, if there is one.
+fn command_for_circuits(command: &Command) -> Option<Command>
+    ensures other { IfSome result (λ found. found ≡ for_circuits command.now) }
+    ensures same { IfNone result (for_circuits command.now ≡ command.now) }
+{
+    match command {
+        Command::OneText(one) => Some(Command::OneText(*one).for_circuits()),
         Command::Stream(_) => None,
         Command::TwoTexts(_, _) => None,
         Command::Formulas(_, _) => None,
@@ -218,7 +235,7 @@ fn report_run<E: Output>(
         Ok(exit) => exit_code(&Ok(exit)),
         Err(refused) => {
             let lines = lines_about(alloc, held.command, task.verbose, failure, refused);
-            let cause = cause_about(alloc, held, task.verbose, refused);
+            let cause = cause_about(alloc, held, task.by_text, task.verbose, refused);
             report_lines(refused.refusal, lines, cause.as_slice(), errors)
         }
     }

@@ -45,6 +45,7 @@ fn strict_text(alloc: Global, kind: TextKind, text: &[u8]) -> Result<Vec<u8>, Re
     match kind {
         TextKind::Game => strict_game_text(alloc, text),
         TextKind::Solution { .. } | TextKind::Winners => bare_text(alloc, text),
-        TextKind::Automata | TextKind::Other => Ok(Vec::from_slice(alloc, text)?),
+        TextKind::Automata | TextKind::Circuit => Ok(Vec::from_slice(alloc, text)?),
+        TextKind::Other => Ok(Vec::from_slice(alloc, text)?),
     }
 }

@@ -5,6 +5,7 @@
 
 mod answering;
 mod causes;
+mod circuit_form;
 mod files;
 mod format;
 mod formulas;

@@ -11,7 +11,12 @@ ghost use Rattle.omega_run.specs.Progress.{IsReportedOf};
 ghost use Rattle.omega_run.specs.Results.{with_bytes};
 ghost use Rattle.omega_run.specs.Searching.{AreTurnsOf, searching_by};
 
+use crate::circuit_form::form_for;
 use omega_answers_automaton::{complement_text, trim_text};
+use omega_answers_circuit::{
+    canon_circuit, check_circuit, show_circuit, show_circuit_json, write_circuit_automaton,
+    write_winning_circuit,
+};
 use omega_answers_empty::{
     Lines, decide_emptiness, draw_automaton_text, draw_lasso_text, search_emptiness,
     write_emptiness_game,
@@ -119,6 +124,7 @@ pub(crate) fn answer_one_text<L, T: Reporter<L>>(
         OneText::RealizeByLifting { controller: true } => {
             write_winner_by_lifting(alloc, text, budget, reporter, observer)
         }
+        OneText::RealizeCircuit { binary } => write_winning_circuit(alloc, text, form_for(binary)),
         OneText::RealizabilityGame => Ok((Exit::Done, write_realizability_game(alloc, text)?)),
         OneText::DrawGame => Ok((Exit::Done, draw_game_text(alloc, text, None, None)?)),
         OneText::DrawPart { from, depth } => {
@@ -126,6 +132,13 @@ pub(crate) fn answer_one_text<L, T: Reporter<L>>(
         }
         OneText::DrawAutomaton => Ok((Exit::Done, draw_automaton_text(alloc, text)?)),
         OneText::DrawLasso => Ok((Exit::Done, draw_lasso_text(alloc, text)?)),
+        OneText::CheckCircuit => Ok((Exit::Done, check_circuit(alloc, text)?)),
+        OneText::ShowCircuit => Ok((Exit::Done, show_circuit(alloc, text)?)),
+        OneText::ShowCircuitJson => Ok((Exit::Done, show_circuit_json(alloc, text)?)),
+        OneText::CanonCircuit { binary } => {
+            Ok((Exit::Done, canon_circuit(alloc, text, form_for(binary))?))
+        }
+        OneText::CircuitAutomaton => Ok((Exit::Done, write_circuit_automaton(alloc, text)?)),
     }
 }
 

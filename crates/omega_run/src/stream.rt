@@ -4,6 +4,7 @@ ghost use Rattle.omega_answers_stream_questions.specs.Items.{exit_for};
 ghost use Rattle.omega_io.specs.Failures.{failures_of};
 ghost use Rattle.omega_solve.specs.Limits.{most_lifts};
 ghost use Rattle.omega_run.specs.Pieces.{IsStreamRefusal, Responds};
+ghost use Rattle.omega_run.specs.Streams.{counted_exit};
 
 use omega_answers_empty::Lines;
 use omega_answers_stream::{canon_stream, check_stream, show_stream, show_stream_json};
@@ -33,34 +34,59 @@ pub(crate) fn answer_stream<R: Input>(
     match stream {
         Stream::Show => Ok((Exit::Done, show_stream(alloc, input)?)),
         Stream::ShowJson => Ok((Exit::Done, show_stream_json(alloc, input)?)),
-        Stream::Check => Ok((Exit::Done, check_stream(alloc, input)?)),
+        Stream::Check { at_least } => {
+            let (text, automata) = check_stream(alloc, input)?;
+            Ok((counted_exit(Exit::Done, automata, at_least), text))
+        }
         Stream::Canon => Ok((Exit::Done, canon_stream(alloc, input)?)),
         Stream::Empty {
             word,
             names,
             status,
+            at_least,
         } => {
             let lines = Lines { word, run: names };
             let answers = empty_stream_by_lifting(alloc, input, lines, budget)?;
-            Ok((exit_after(status, answers.no), answers.text))
+            let exit = exit_after(status, answers.no);
+            Ok((counted_exit(exit, answers.automata, at_least), answers.text))
         }
         Stream::EmptySearch {
             word,
             names,
             status,
+            at_least,
         } => {
             let lines = Lines { word, run: names };
             let answers = empty_stream_by_search(alloc, input, lines)?;
-            Ok((exit_after(status, answers.no), answers.text))
+            let exit = exit_after(status, answers.no);
+            Ok((counted_exit(exit, answers.automata, at_least), answers.text))
         }
-        Stream::Complement => {
+        Stream::Complement { at_least } => {
             let answers = complement_stream(alloc, input)?;
-            Ok((Exit::Done, answers.text))
+            Ok((
+                counted_exit(Exit::Done, answers.automata, at_least),
+                answers.text,
+            ))
         }
-        Stream::Trim => {
+        Stream::Trim { at_least } => {
             let answers = trim_stream(alloc, input)?;
-            Ok((Exit::Done, answers.text))
+            Ok((
+                counted_exit(Exit::Done, answers.automata, at_least),
+                answers.text,
+            ))
         }
+    }
+}
+
+/// Returns how a command ends that would end with `exit`, after so many `automata`: as [Exit::No] if there are fewer
+/// than `at_least`.
+pub(crate) fn counted_exit(exit: Exit, automata: usize, at_least: u32) -> Exit
+    ensures { result ≡ counted_exit at_least automata exit }
+{
+    if automata < at_least as usize {
+        Exit::No
+    } else {
+        exit
     }
 }
 

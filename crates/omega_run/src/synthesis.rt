@@ -6,7 +6,10 @@ ghost use Rattle.omega_answers_synth.specs.Outputs.{lists_of};
 ghost use Rattle.omega_run.specs.FormulaJudge.{AnswersFormulaJudge, RefusesFormulaJudge};
 ghost use Rattle.omega_run.specs.Synthesis.{AnswersSynthesis, lists_in};
 
+use crate::circuit_form::form_for;
 use crate::texts::Texts;
+use omega_aiger::begins_as_circuit;
+use omega_answers_circuit::{verify_formula_circuit, write_formula_circuit};
 use omega_answers_synth::{
     GivenNames, decide_formula_realizability, formula_refusals_are_no_failures,
     verify_formula_controller, verify_formula_counter_strategy, write_formula_game,
@@ -35,11 +38,14 @@ pub(crate) fn answer_synthesis(
         Synthesis::Decide => decide_formula_realizability(alloc, formula, names),
         Synthesis::Controller => write_formula_winner(alloc, formula, names),
         Synthesis::Game => Ok((Exit::Done, write_formula_game(alloc, formula, names)?)),
+        Synthesis::Circuit { binary } => {
+            write_formula_circuit(alloc, formula, names, form_for(binary))
+        }
     }
 }
 
-/// Returns whether the text of the input is right for the formula of the other, with how the command ends; or why the
-/// texts are refused, and which of them that is about.
+/// Returns whether the text of the input, that of a circuit if it begins as one, or else of an automaton, is right for
+/// the formula of the other, with how the command ends; or why the texts are refused, and which of them that is about.
 pub(crate) fn answer_formula_judge(
     alloc: Global,
     asked: FormulaJudge,
@@ -55,7 +61,11 @@ pub(crate) fn answer_formula_judge(
     let names = given_names(partition);
     match asked {
         FormulaJudge::Controller { explain } => {
-            verify_formula_controller(alloc, other, names, input, explain)
+            if begins_as_circuit(input) {
+                verify_formula_circuit(alloc, other, input, names, explain)
+            } else {
+                verify_formula_controller(alloc, other, names, input, explain)
+            }
         }
         FormulaJudge::CounterStrategy { explain } => {
             verify_formula_counter_strategy(alloc, other, names, input, explain)

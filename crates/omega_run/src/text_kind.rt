@@ -19,6 +19,8 @@ pub(crate) enum TextKind {
     Winners,
     /// One automaton, or a stream of automata.
     Automata,
+    /// A circuit.
+    Circuit,
     /// A lasso, a word, a formula, or a walk; or no text.
     Other,
 }
@@ -56,6 +58,11 @@ fn kind_of_one(command: OneText) -> TextKind
         | OneText::Search { .. }
         | OneText::DrawGame
         | OneText::DrawPart { .. } => TextKind::Game,
+        OneText::CheckCircuit
+        | OneText::ShowCircuit
+        | OneText::ShowCircuitJson
+        | OneText::CanonCircuit { .. }
+        | OneText::CircuitAutomaton => TextKind::Circuit,
         OneText::Ltl { .. } => TextKind::Other,
         OneText::LtlDeterministic => TextKind::Other,
         _ => TextKind::Automata,

@@ -1,10 +1,13 @@
--- Tasks with the defaults, those whose format a text tells, and those with the text of a file too.
-use Rattle.std.specs.Prelude.{◌≡◌, false, true, List, Some, ℕ}
+-- Tasks with the defaults, those whose format a text tells, and those with the text of a file too; and whether a task
+-- is about a stream.
+use Rattle.std.specs.Prelude.{◌≡◌, false, true, List, Option, None, Some, ℕ}
 use Rattle.omega_cli_command.specs.Limits.{most_budget}
+use Rattle.omega_cli_command.specs.Options.{GivesOne, GivesStream}
 use Rattle.omega_cli_command.specs.TwoTexts.{NamesOther}
 use Rattle.omega_cli_command.specs.declared.command.Command.{Command}
 use Rattle.omega_cli_command.specs.declared.command.Command.TheVariants as command
 use Rattle.omega_cli_command.specs.declared.one_text.OneText.{OneText}
+use Rattle.omega_cli_command.specs.declared.options.Options.{Options}
 use Rattle.omega_cli_command.specs.declared.other.Other.{Other}
 use Rattle.omega_cli_command.specs.declared.source.Source.TheVariants as source
 use Rattle.omega_cli_command.specs.declared.task.Task.{Task}
@@ -30,3 +33,8 @@ task_by_text game = record (default_task (command.OneText game)) { by_text = tru
 abbrev pub IsTaskWithFile : TwoTexts → (name : List ℕ) → Task → Type 0
 IsTaskWithFile asked name task = (source : Other) × NamesOther (Some name) source
     × (task ≡ default_task (command.TwoTexts asked source))
+
+-- the options ask for a stream with at least so many automata, or for one text
+abbrev pub GivesCount : Options → Option ℕ → Type 0
+GivesCount options None = GivesOne options
+GivesCount options (Some at_least) = GivesStream options at_least

@@ -1,6 +1,6 @@
 //! The task that `draw` requests.
-ghost use Rattle.std.specs.Prelude.{◌≡◌, IfErr, IfOk, false, true};
-ghost use Rattle.omega_cli_command.specs.Formats.{GoesWithEither};
+ghost use Rattle.std.specs.Prelude.{IfErr, IfOk, None, false};
+ghost use Rattle.omega_cli_command.specs.Implied.{ImpliesFormat};
 ghost use Rattle.omega_cli_command.specs.Mistakes.{IsMistake};
 ghost use Rattle.omega_cli_command.specs.Options.{GivesFormat, GivesPart, text_of};
 ghost use Rattle.omega_cli_command.specs.Task.{AsksFor};
@@ -11,7 +11,7 @@ ghost use Rattle.omega_cli_command.specs.declared.subcommand.Subcommand.TheVaria
 
 use crate::command::Command;
 use crate::format::Format;
-use crate::mistake::Mistake;
+use crate::mistake::{Mistake, Reason};
 use crate::one_text::OneText;
 use crate::options::{OptionName, Options};
 use crate::task::Task;
@@ -22,34 +22,20 @@ use std::alloc::Global;
 
 /// Returns the task that `draw` requests with `options`, or what is wrong with them.
 pub(crate) fn draw_task<'a>(alloc: Global, options: &Options<'_, 'a>) -> Result<Task, Mistake<'a>>
+    requires { ImpliesFormat sub.Draw options.now None }
     ensures asked { IfOk result (AsksFor sub.Draw options.now) }
     ensures mistaken { IfErr result (IsMistake sub.Draw options.now) }
 {
     let legend = is_set(OptionName::Legend, options.legend)?;
     let lasso = is_set(OptionName::Lasso, options.lasso)?;
-    if goes_with_either(options, legend, lasso) && leaves_format(options) {
+    if leaves_format(options) {
         return Ok(task_by_text(OneText::DrawGame));
     }
     match format_in(options)? {
         Format::Pg => game_task(alloc, options, legend, lasso),
         Format::Hoa => automaton_task(options, legend, lasso),
+        Format::Aiger => Err(Mistake::Value(OptionName::Format, "aiger", Reason::NotDrawn)),
     }
-}
-
-/// Whether `options` have none that goes with one format alone.
-fn goes_with_either(options: &Options<'_, '_>, legend: bool, lasso: bool) -> bool
-    requires legend { GivesFlag (text_of name.Legend options.now) legend }
-    requires lasso { GivesFlag (text_of name.Lasso options.now) lasso }
-    ensures either { result ≡ true → GoesWithEither sub.Draw options.now }
-    ensures one_alone { result ≡ false → GoesWithEither sub.Draw options.now → ⊥ }
-{
-    if legend || lasso {
-        return false;
-    }
-    if options.solution.is_some() || options.walk.is_some() {
-        return false;
-    }
-    options.from.is_none() && options.depth.is_none()
 }
 
 /// Returns the task that `draw` requests for a game, or what is wrong with `options`.

@@ -1,18 +1,21 @@
 //! The task that `empty` requests.
-ghost use Rattle.std.specs.Prelude.{◌≡◌, IfErr, IfOk, false, true};
+ghost use Rattle.std.specs.Prelude.{◌≡◌, IfErr, IfOk, false, is_some, true};
 ghost use Rattle.omega_cli_command.specs.Mistakes.{IsMistake};
 ghost use Rattle.omega_cli_command.specs.Options.{GivesNoLifting, text_of};
 ghost use Rattle.omega_cli_command.specs.Task.{AsksCommand, AsksFor};
 ghost use Rattle.omega_cli_command.specs.Values.{GivesFlag};
 ghost use Rattle.omega_cli_command.specs.declared.options.OptionName.TheVariants as name;
 ghost use Rattle.omega_cli_command.specs.declared.subcommand.Subcommand.TheVariants as sub;
+ghost use Rattle.omega_cli_command.specs.private.Tasks.{GivesCount};
 
 use crate::command::Command;
 use crate::mistake::Mistake;
 use crate::one_text::OneText;
 use crate::options::{OptionName, Options};
 use crate::stream::Stream;
+use crate::subcommand::Subcommand;
 use crate::task::Task;
+use crate::tasks::streams::count_in;
 use crate::values::{budget_in, is_set};
 
 /// Returns the task that `empty` requests with `options`, or what is wrong with them.
@@ -20,9 +23,9 @@ pub(crate) fn empty_task<'a>(options: &Options<'_, 'a>) -> Result<Task, Mistake<
     ensures asked { IfOk result (AsksFor sub.Empty options.now) }
     ensures mistaken { IfErr result (IsMistake sub.Empty options.now) }
 {
-    let stream = is_set(OptionName::Stream, options.stream)?;
+    let count = count_in(Subcommand::Empty, options)?;
     let progress = is_set(OptionName::Progress, options.progress)?;
-    if stream && progress {
+    if count.is_some() && progress {
         return Err(Mistake::Conflict(OptionName::Stream, OptionName::Progress));
     }
     let budget = budget_in(options)?;
@@ -33,7 +36,7 @@ pub(crate) fn empty_task<'a>(options: &Options<'_, 'a>) -> Result<Task, Mistake<
     if search && progress {
         return Err(Mistake::Conflict(OptionName::Search, OptionName::Progress));
     }
-    let command = empty_command(options, stream, search)?;
+    let command = empty_command(options, count, search)?;
     Ok(Task {
         budget,
         progress,
@@ -41,16 +44,16 @@ pub(crate) fn empty_task<'a>(options: &Options<'_, 'a>) -> Result<Task, Mistake<
     })
 }
 
-/// Returns the command that `empty` requests for one automaton or a stream, decided by lifting or by a search, or what
-/// is wrong with `options`.
+/// Returns the command that `empty` requests for one automaton, or for a stream with a least `count` of them, decided
+/// by lifting or by a search, or what is wrong with `options`.
 fn empty_command<'a>(
     options: &Options<'_, 'a>,
-    stream: bool,
+    count: Option<u32>,
     search: bool,
 ) -> Result<Command, Mistake<'a>>
-    requires stream { GivesFlag (text_of name.Stream options.now) stream }
+    requires count { GivesCount options.now count }
     requires search { GivesFlag (text_of name.Search options.now) search }
-    requires unobserved { stream ≡ true → GivesFlag (text_of name.Progress options.now) false }
+    requires unobserved { is_some count ≡ true → GivesFlag (text_of name.Progress options.now) false }
     requires unlifted { search ≡ true → GivesNoLifting options.now }
     ensures asked { IfOk result (AsksCommand false sub.Empty options.now) }
     ensures mistaken { IfErr result (IsMistake sub.Empty options.now) }
@@ -58,26 +61,28 @@ fn empty_command<'a>(
     let word = is_set(OptionName::Word, options.word)?;
     let names = is_set(OptionName::Names, options.names)?;
     let status = is_set(OptionName::Status, options.status)?;
-    Ok(match (stream, search) {
-        (false, false) => Command::OneText(OneText::Empty {
+    Ok(match (count, search) {
+        (None, false) => Command::OneText(OneText::Empty {
             word,
             names,
             status,
         }),
-        (false, true) => Command::OneText(OneText::EmptySearch {
+        (None, true) => Command::OneText(OneText::EmptySearch {
             word,
             names,
             status,
         }),
-        (true, false) => Command::Stream(Stream::Empty {
+        (Some(at_least), false) => Command::Stream(Stream::Empty {
             word,
             names,
             status,
+            at_least,
         }),
-        (true, true) => Command::Stream(Stream::EmptySearch {
+        (Some(at_least), true) => Command::Stream(Stream::EmptySearch {
             word,
             names,
             status,
+            at_least,
         }),
     })
 }

@@ -8,8 +8,10 @@ use crate::command::Command;
 use crate::formulas::Formulas;
 use crate::mistake::Mistake;
 use crate::options::{OptionName, Options};
+use crate::subcommand::Subcommand;
 use crate::task::Task;
 use crate::tasks::formula_texts::formulas_in;
+use crate::tasks::streams::count_in;
 use crate::values::is_set;
 use std::alloc::Global;
 
@@ -22,22 +24,23 @@ pub(crate) fn satisfies_task<'a>(
     ensures mistaken { IfErr result (IsMistake sub.Satisfies options.now) }
 {
     let explain = is_set(OptionName::Explain, options.explain)?;
-    let stream = is_set(OptionName::Stream, options.stream)?;
+    let count = count_in(Subcommand::Satisfies, options)?;
     if options.first_formula().is_none() {
         return Err(Mistake::Missing(OptionName::Formula));
     }
     if options.word_text.is_some() && options.file.is_some() {
         return Err(Mistake::Conflict(OptionName::WordText, OptionName::File));
     }
-    if options.word_text.is_some() && stream {
+    if options.word_text.is_some() && count.is_some() {
         return Err(Mistake::Conflict(OptionName::WordText, OptionName::Stream));
     }
     let formulas = formulas_in(alloc, options)?;
-    if options.word_text.is_some() {
-        Ok(Task::of(Command::Formulas(Formulas::SatisfiesWord { explain }, formulas)))
-    } else if stream {
-        Ok(Task::of(Command::Formulas(Formulas::SatisfiesStream { explain }, formulas)))
-    } else {
-        Ok(Task::of(Command::Formulas(Formulas::Satisfies { explain }, formulas)))
-    }
+    Ok(Task::of(Command::Formulas(
+        match count {
+            Some(at_least) => Formulas::SatisfiesStream { explain, at_least },
+            None if options.word_text.is_some() => Formulas::SatisfiesWord { explain },
+            None => Formulas::Satisfies { explain },
+        },
+        formulas,
+    )))
 }

@@ -8,7 +8,7 @@ use crate::mistake::Mistake;
 use crate::one_text::OneText;
 use crate::options::{OptionName, Options};
 use crate::task::Task;
-use crate::tasks::formats::either_task;
+use crate::tasks::formats::formatted_task;
 use crate::values::is_set;
 
 /// Returns the task that `show` requests with `options`, or what is wrong with them.
@@ -17,8 +17,8 @@ pub(crate) fn show_task<'a>(options: &Options<'_, 'a>) -> Result<Task, Mistake<'
     ensures mistaken { IfErr result (IsMistake sub.Show options.now) }
 {
     if is_set(OptionName::Json, options.json)? {
-        either_task(options, OneText::ShowJson)
+        formatted_task(options, OneText::ShowJson)
     } else {
-        either_task(options, OneText::Show)
+        formatted_task(options, OneText::Show)
     }
 }

@@ -7,20 +7,20 @@ ghost use Rattle.omega_cli_command.specs.declared.subcommand.Subcommand.TheVaria
 use crate::command::Command;
 use crate::mistake::Mistake;
 use crate::one_text::OneText;
-use crate::options::{OptionName, Options};
+use crate::options::Options;
 use crate::stream::Stream;
+use crate::subcommand::Subcommand;
 use crate::task::Task;
-use crate::values::is_set;
+use crate::tasks::streams::count_in;
 
 /// Returns the task that `complement` requests with `options`, or what is wrong with them.
 pub(crate) fn complement_task<'a>(options: &Options<'_, 'a>) -> Result<Task, Mistake<'a>>
     ensures asked { IfOk result (AsksFor sub.Complement options.now) }
     ensures mistaken { IfErr result (IsMistake sub.Complement options.now) }
 {
-    Ok(Task::of(if is_set(OptionName::Stream, options.stream)? {
-        Command::Stream(Stream::Complement)
-    } else {
-        Command::OneText(OneText::Complement)
+    Ok(Task::of(match count_in(Subcommand::Complement, options)? {
+        Some(at_least) => Command::Stream(Stream::Complement { at_least }),
+        None => Command::OneText(OneText::Complement),
     }))
 }
 
@@ -29,9 +29,8 @@ pub(crate) fn trim_task<'a>(options: &Options<'_, 'a>) -> Result<Task, Mistake<'
     ensures asked { IfOk result (AsksFor sub.Trim options.now) }
     ensures mistaken { IfErr result (IsMistake sub.Trim options.now) }
 {
-    Ok(Task::of(if is_set(OptionName::Stream, options.stream)? {
-        Command::Stream(Stream::Trim)
-    } else {
-        Command::OneText(OneText::Trim)
+    Ok(Task::of(match count_in(Subcommand::Trim, options)? {
+        Some(at_least) => Command::Stream(Stream::Trim { at_least }),
+        None => Command::OneText(OneText::Trim),
     }))
 }

@@ -9,8 +9,10 @@ use crate::formulas::Formulas;
 use crate::mistake::Mistake;
 use crate::options::{OptionName, Options};
 use crate::other::Other;
+use crate::subcommand::Subcommand;
 use crate::task::Task;
 use crate::tasks::formula_texts::formulas_in;
+use crate::tasks::streams::count_in;
 use crate::two_texts::TwoTexts;
 use crate::values::{is_set, other_in};
 use std::alloc::Global;
@@ -64,14 +66,15 @@ pub(crate) fn contained_task<'a>(
     ensures mistaken { IfErr result (IsMistake sub.Contained options.now) }
 {
     let explain = is_set(OptionName::Explain, options.explain)?;
-    let stream = is_set(OptionName::Stream, options.stream)?;
+    let count = count_in(Subcommand::Contained, options)?;
     let Some(name) = options.within else {
         return Err(Mistake::Missing(OptionName::In));
     };
-    if stream {
-        Task::with_file(alloc, TwoTexts::ContainedStream { explain }, name)
-    } else {
-        Task::with_file(alloc, TwoTexts::Contained { explain }, name)
+    match count {
+        Some(at_least) => {
+            Task::with_file(alloc, TwoTexts::ContainedStream { explain, at_least }, name)
+        }
+        None => Task::with_file(alloc, TwoTexts::Contained { explain }, name),
     }
 }
 

@@ -3,7 +3,7 @@ use Rattle.std.proofs.Common.{◌∙◌, ap, List, [], Option, ℕ, slice_get, u
 use Rattle.clap.proofs.WalkLemmas.{first_value-rows, raw_values-rows}
 use Rattle.clap.specs.Words.{found_of, rows_of}
 use Rattle.omega_cli.specs.Found.{id_of}
-use Rattle.omega_cli_command.specs.declared.options.OptionName.TheVariants.{AsGame, Automaton, Budget, By, Controller, CounterStrategy, Depth, Deterministic, Effort, Explain, File, ForSome, Format, Formula, From, Game, In, Ins, Json, Lasso, Legend, Lenient, Lift, Min, Names, Negated, Outs, Player, Progress, Search, Solution, Specification, Status, Stream, To, Trim, Verbose, Walk, Winners, With, Word, WordText}
+use Rattle.omega_cli_command.specs.declared.options.OptionName.TheVariants.{Aiger, AsGame, AtLeast, Automaton, Binary, Budget, By, Controller, CounterStrategy, Depth, Deterministic, Effort, Explain, File, ForSome, Format, Formula, From, Game, In, Ins, Json, Lasso, Legend, Lenient, Lift, Min, Names, Negated, Outs, Player, Progress, Search, Solution, Specification, Status, Stream, To, Trim, Verbose, Walk, Winners, With, Word, WordText}
 use Rattle.omega_cli.proofs.Formulas.{first_given}
 use Rattle.omega_cli.proofs.found.options_in.Goals as goal
 
@@ -42,17 +42,20 @@ returns-clause-texts c In = c.get_str-24.ensures ∙ first_value-rows (found_of 
 returns-clause-texts c To = c.get_str-25.ensures ∙ first_value-rows (found_of c.args.found.now) (id_of To)
 returns-clause-texts c Controller = c.get_str-26.ensures ∙ first_value-rows (found_of c.args.found.now) (id_of Controller)
 returns-clause-texts c AsGame = c.get_str-27.ensures ∙ first_value-rows (found_of c.args.found.now) (id_of AsGame)
-returns-clause-texts c Lift = c.get_str-28.ensures ∙ first_value-rows (found_of c.args.found.now) (id_of Lift)
-returns-clause-texts c Solution = c.get_str-29.ensures ∙ first_value-rows (found_of c.args.found.now) (id_of Solution)
-returns-clause-texts c Walk = c.get_str-30.ensures ∙ first_value-rows (found_of c.args.found.now) (id_of Walk)
-returns-clause-texts c Legend = c.get_str-31.ensures ∙ first_value-rows (found_of c.args.found.now) (id_of Legend)
-returns-clause-texts c Lasso = c.get_str-32.ensures ∙ first_value-rows (found_of c.args.found.now) (id_of Lasso)
-returns-clause-texts c Depth = c.get_str-33.ensures ∙ first_value-rows (found_of c.args.found.now) (id_of Depth)
-returns-clause-texts c Progress = c.get_str-34.ensures ∙ first_value-rows (found_of c.args.found.now) (id_of Progress)
-returns-clause-texts c Stream = c.get_str-35.ensures ∙ first_value-rows (found_of c.args.found.now) (id_of Stream)
-returns-clause-texts c Winners = c.get_str-36.ensures ∙ first_value-rows (found_of c.args.found.now) (id_of Winners)
-returns-clause-texts c Min = c.get_str-37.ensures ∙ first_value-rows (found_of c.args.found.now) (id_of Min)
-returns-clause-texts c Json = c.get_str-38.ensures ∙ first_value-rows (found_of c.args.found.now) (id_of Json)
-returns-clause-texts c Lenient = c.get_str-39.ensures ∙ first_value-rows (found_of c.args.found.now) (id_of Lenient)
-returns-clause-texts c Verbose = c.get_str-40.ensures ∙ first_value-rows (found_of c.args.found.now) (id_of Verbose)
-returns-clause-texts c File = c.get_str-41.ensures ∙ first_value-rows (found_of c.args.found.now) (id_of File)
+returns-clause-texts c Aiger = c.get_str-28.ensures ∙ first_value-rows (found_of c.args.found.now) (id_of Aiger)
+returns-clause-texts c Binary = c.get_str-29.ensures ∙ first_value-rows (found_of c.args.found.now) (id_of Binary)
+returns-clause-texts c Lift = c.get_str-30.ensures ∙ first_value-rows (found_of c.args.found.now) (id_of Lift)
+returns-clause-texts c Solution = c.get_str-31.ensures ∙ first_value-rows (found_of c.args.found.now) (id_of Solution)
+returns-clause-texts c Walk = c.get_str-32.ensures ∙ first_value-rows (found_of c.args.found.now) (id_of Walk)
+returns-clause-texts c Legend = c.get_str-33.ensures ∙ first_value-rows (found_of c.args.found.now) (id_of Legend)
+returns-clause-texts c Lasso = c.get_str-34.ensures ∙ first_value-rows (found_of c.args.found.now) (id_of Lasso)
+returns-clause-texts c Depth = c.get_str-35.ensures ∙ first_value-rows (found_of c.args.found.now) (id_of Depth)
+returns-clause-texts c Progress = c.get_str-36.ensures ∙ first_value-rows (found_of c.args.found.now) (id_of Progress)
+returns-clause-texts c Stream = c.get_str-37.ensures ∙ first_value-rows (found_of c.args.found.now) (id_of Stream)
+returns-clause-texts c AtLeast = c.get_str-38.ensures ∙ first_value-rows (found_of c.args.found.now) (id_of AtLeast)
+returns-clause-texts c Winners = c.get_str-39.ensures ∙ first_value-rows (found_of c.args.found.now) (id_of Winners)
+returns-clause-texts c Min = c.get_str-40.ensures ∙ first_value-rows (found_of c.args.found.now) (id_of Min)
+returns-clause-texts c Json = c.get_str-41.ensures ∙ first_value-rows (found_of c.args.found.now) (id_of Json)
+returns-clause-texts c Lenient = c.get_str-42.ensures ∙ first_value-rows (found_of c.args.found.now) (id_of Lenient)
+returns-clause-texts c Verbose = c.get_str-43.ensures ∙ first_value-rows (found_of c.args.found.now) (id_of Verbose)
+returns-clause-texts c File = c.get_str-44.ensures ∙ first_value-rows (found_of c.args.found.now) (id_of File)

@@ -2,8 +2,9 @@
 use Rattle.std.specs.Prelude.{List, [], ◌∷◌, true, codes}
 use Rattle.clap.specs.Simple.{new_shape}
 use Rattle.clap.specs.Words.{App, Rule, Shape, Text, with_rule, with_subcommand}
-use Rattle.omega_cli.specs.Program.{accepts, canon, check, complement, contained, draw, empty, equal}
-use Rattle.omega_cli.specs.Program.{flag, game, join, lettered, ltl, meet, named, operand, optional}
+use Rattle.omega_cli.specs.Program.{accepts, automaton, canon, check, complement, contained, draw}
+use Rattle.omega_cli.specs.Program.{empty, equal, flag, game, join, lettered, ltl, meet, named}
+use Rattle.omega_cli.specs.Program.{operand, optional}
 use Rattle.omega_cli.specs.Program.{optional_as, optional_lettered, optional_repeated, realize}
 use Rattle.omega_cli.specs.Program.{required, required_as, required_repeated, satisfies, show, solve}
 use Rattle.omega_cli.specs.Program.{trim, verify}
@@ -40,6 +41,7 @@ shape_for subcommand.Solve = solve
 shape_for subcommand.Verify = verify
 shape_for subcommand.Empty = empty
 shape_for subcommand.Game = game
+shape_for subcommand.Automaton = automaton
 shape_for subcommand.Accepts = accepts
 shape_for subcommand.Contained = contained
 shape_for subcommand.Equal = equal

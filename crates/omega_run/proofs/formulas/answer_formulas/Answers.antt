@@ -20,7 +20,7 @@ pub returns-in-SatisfiesWord-clause-unmentioned : goal.returns-in-SatisfiesWord-
 returns-in-SatisfiesWord-clause-unmentioned c = rw c.in-SatisfiesWord.is c.satisfies_word_each.ensures.unmentioned
 
 pub returns-in-SatisfiesStream-clause-answered : goal.returns-in-SatisfiesStream-clause-answered
-returns-in-SatisfiesStream-clause-answered c = rw c.in-SatisfiesStream.is c.satisfies_stream_each.ensures.answers
+returns-in-SatisfiesStream-clause-answered c = rw c.in-SatisfiesStream.is c.satisfies_counted.ensures.answered
 
 pub returns-in-SatisfiesStream-clause-unmentioned : goal.returns-in-SatisfiesStream-clause-unmentioned
-returns-in-SatisfiesStream-clause-unmentioned c = rw c.in-SatisfiesStream.is c.satisfies_stream_each.ensures.unmentioned
+returns-in-SatisfiesStream-clause-unmentioned c = rw c.in-SatisfiesStream.is c.satisfies_counted.ensures.unmentioned

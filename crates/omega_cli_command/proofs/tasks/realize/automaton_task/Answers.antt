@@ -1,4 +1,4 @@
--- `automaton_task`: what goes with lifting needs it.
+-- `automaton_task`: what goes with lifting needs it, and what is written in binary is a circuit.
 use Rattle.std.proofs.Common.{inr, refl, sym}
 use Rattle.omega_cli_command.specs.Options.{text_of}
 use Rattle.omega_cli_command.specs.declared.options.OptionName.TheVariants as name
@@ -21,3 +21,12 @@ returns-then-is_some-clause-mistaken c = inr (elim c.then-is_some.branch [
     missing = unset (text_of name.Lift c.args.options.now) (rw c.if-lift.false at c.in_ok-lift.ensures.given);
   }
 ])
+
+pub returns-then-binary-clause-mistaken : goal.returns-then-binary-clause-mistaken
+returns-then-binary-clause-mistaken c =
+    inr (record {
+      one = name.Binary;
+      needed = (refl, refl);
+      one_used = rw c.if-binary.true at c.in_ok-binary.ensures.given;
+      missing = unset (text_of name.Aiger c.args.options.now) (rw c.if-aiger.false at c.in_ok-aiger.ensures.given);
+    })
