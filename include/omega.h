@@ -1,5 +1,5 @@
-/* libomega: parity games as arrays, solved and judged; omega-automata as texts, combined and decided; and the program
- * omega as a function. For C and C++.
+/* libomega: parity games as arrays, solved and judged; omega-automata, formulas and circuits as texts, combined,
+ * decided and judged; and the program omega as a function. For C and C++.
  *
  * Link with libomega.a, which needs nothing but the C library, or with libomega.so; `make libomega` makes both. There is
  * no state and no thread: calls may be made from any thread at once, but not from a signal handler, and after a fork in
@@ -65,7 +65,17 @@ enum {
     OMEGA_BAD_SHAPE = 57,            /* an entry of an array is wrong: `array` and `place` say which */
     OMEGA_CONTROLLABLE = 58,         /* the item controllable-AP: is refused, or missing */
     OMEGA_UNJUDGED = 59,             /* what a search found is not what was asked for: a fault of the library */
-    OMEGA_MEMORY = 60                /* a request for memory was refused */
+    OMEGA_MEMORY = 60,               /* a request for memory was refused */
+    /* of a circuit */
+    OMEGA_VARIABLES = 70,            /* the count of variables does not fit, or is over 16,777,216 */
+    OMEGA_LITERAL_RANGE = 71,        /* a literal or a delta is out of range */
+    OMEGA_DEFINED = 72,              /* a constant, or a variable a second time, is defined */
+    OMEGA_UNDEFINED = 73,            /* a literal of no input, latch or gate is used */
+    OMEGA_CYCLE = 74,                /* a gate uses itself, through gates */
+    OMEGA_RESET = 75,                /* a reset is neither 0 nor 1 */
+    OMEGA_SYMBOL = 76,               /* a symbol of a position that is out of range or has one already */
+    OMEGA_PROPERTIES = 77,           /* bad properties, constraints, justice or fairness */
+    OMEGA_NAME = 78                  /* a name that the other format cannot have */
 };
 
 /* The entry of a choice that is none. */
@@ -242,13 +252,56 @@ omega_text_outcome omega_realize(const uint8_t *text, size_t text_bytes, uint32_
 omega_text_outcome omega_realize_formula(const uint8_t *formula, size_t formula_bytes, const uint8_t *names,
                                          size_t name_bytes, uint8_t inputs, uint32_t *verdict, omega_text *out);
 
+/* Circuits are texts in the AIGER format, in the ASCII form (aag) or the binary one (aig). A first line `REALIZABLE` is
+ * passed over. Each call that is given one refuses 2 to 4 and 70 to 77 for it, and 60; what else it refuses is said
+ * there. Where a call gives a circuit, it is in canonical form: with `binary` not 0 as aig, else as aag. */
+
+/* Gives the canonical text of the circuit. Refuses 4 too if that would be too long. */
+omega_text_outcome omega_circuit(const uint8_t *text, size_t text_bytes, uint8_t binary, omega_text *out);
+
+/* Gives an automaton that accepts exactly the words of the circuit: its propositions are the inputs and the outputs. It
+ * is deterministic, and answers each letter of the inputs in each state. Refuses 26 and 78 for names, and 55. */
+omega_text_outcome omega_circuit_automaton(const uint8_t *text, size_t text_bytes, omega_text *out);
+
+/* Whether the specification, a deterministic automaton, accepts each word of the circuit, whose inputs and outputs are
+ * the propositions of the same names. Writes 1 or 0 into `verdict`, and gives a line, `yes` or `no`. With `explain` not
+ * 0 the lines of a lasso of the circuit's automaton follow `no`, with a word that the specification does not accept.
+ * The specification is the second text. Refuses what both texts may be refused for, 41, 42, 55, 56 and 78, and 58 if
+ * the item controllable-AP: is refused, or if it gives an input to the system or an output to the environment. */
+omega_text_outcome omega_verify_circuit(const uint8_t *circuit, size_t circuit_bytes, const uint8_t *specification,
+                                        size_t specification_bytes, uint8_t explain, uint32_t *verdict,
+                                        omega_text *out);
+
+/* Whether each word of the circuit satisfies the formula. `names` and `inputs` say which names the system controls, as
+ * for omega_realize_formula; all else is as for omega_verify_circuit. The formula is the second text. Refuses what both
+ * texts may be refused for, 26, 42, 55 and 78, and 58 if a name is listed that the formula does not have, or if an
+ * input has the name of an output of the formula, or an output that of an input. */
+omega_text_outcome omega_verify_formula_circuit(const uint8_t *circuit, size_t circuit_bytes, const uint8_t *formula,
+                                                size_t formula_bytes, const uint8_t *names, size_t name_bytes,
+                                                uint8_t inputs, uint8_t explain, uint32_t *verdict, omega_text *out);
+
+/* Whether some system keeps the specification, as omega_realize decides it. Writes 1 into `verdict` and gives a circuit
+ * that does, to which omega_verify_circuit says yes; or writes 0 and gives the line `unrealizable`. Refuses what
+ * omega_realize does, and 42, 55, 59, and 78 if the name of a proposition is empty or has a line feed. */
+omega_text_outcome omega_realize_circuit(const uint8_t *text, size_t text_bytes, uint8_t binary, uint32_t *verdict,
+                                         omega_text *out);
+
+/* Whether some system satisfies the formula, as omega_realize_formula decides it, with names that are listed as there.
+ * Writes 1 into `verdict` and gives a circuit that does, to which omega_verify_formula_circuit says yes; or writes 0
+ * and gives the line `unrealizable`. Refuses what omega_realize_formula does, and 42, 55, 59, and 78 if a name is empty
+ * or has a line feed. */
+omega_text_outcome omega_realize_formula_circuit(const uint8_t *formula, size_t formula_bytes, const uint8_t *names,
+                                                 size_t name_bytes, uint8_t inputs, uint8_t binary, uint32_t *verdict,
+                                                 omega_text *out);
+
 /* Takes a text back, if there is one, and leaves none. */
 void omega_free(omega_text *text);
 
 /* Does what the program does with a command line. Its words after the program's name are each ended by a NUL, as in
  * "solve\0--search"; what stands after the last NUL is not read. The input is standard input; each file that the
  * words name, the operand too, has the text `file`, whatever its name. Copies what it writes as far as there is room
- * for it; where a length that it gives is greater than the room, ask again with more. */
+ * for it; where a length that it gives is greater than the room, ask again with more. No read and no write fails: where
+ * there is no memory for what is written, the status is 4 and the line is that of 60, never 5 and that of 61. */
 omega_ran omega_run(const uint8_t *words, size_t word_bytes, const uint8_t *input, size_t input_bytes,
                     const uint8_t *file, size_t file_bytes, uint8_t *output, size_t output_room, uint8_t *errors,
                     size_t error_room);

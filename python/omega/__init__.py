@@ -1,5 +1,6 @@
-"""Parity games solved and judged, and omega-automata combined and decided, by `libomega`, whose answers are proved to
-be right. This package, which hands arrays and texts to the library, is tested and not proved.
+"""Parity games solved and judged, omega-automata combined and decided, and circuits made and judged, by `libomega`,
+whose answers are proved to be right. This package, which hands arrays and texts to the library, is tested and not
+proved.
 
     import omega
 
@@ -8,6 +9,8 @@ be right. This package, which hands arrays and texts to the library, is tested a
     omega.Automaton.parse(text).accepting_lasso()   # an accepting lasso with its word, or None
     omega.Automaton.parse(text).satisfies("G(request -> F grant)")  # whether each accepted word does
     omega.Formula("G(request -> F grant)").realize(outs=["grant"])  # a controller, or a counter-strategy
+    omega.Formula("G(request -> F grant)").realize(outs=["grant"]).circuit()  # a circuit, or None
+    omega.Circuit.parse(text).judge("G(request -> F grant)", outs=["grant"])  # whether the circuit does, and why not
 
 Games come as texts, or as arrays: the priority of each node, its owner, 0 or 1, and its successors, which are places
 of nodes from 0 to n - 1. The successors are a list for each node, or a pair of flat arrays: where the successors of
@@ -29,9 +32,10 @@ bound a call by time; a `Refusal` can be sent between processes.
 """
 from .arrays import NO_CHOICE, Answer, Bounds, Counterexample, Ran, Solution, bound, run, solve, verify
 from .automata import Automaton, Lasso, Realizability
+from .circuits import Circuit, Judgement
 from .formulas import Formula
 from .games import Game
 from .library import Refusal, version
 
-__all__ = ["NO_CHOICE", "Answer", "Automaton", "Bounds", "Counterexample", "Formula", "Game", "Lasso", "Ran",
-           "Realizability", "Refusal", "Solution", "bound", "run", "solve", "verify", "version"]
+__all__ = ["NO_CHOICE", "Answer", "Automaton", "Bounds", "Circuit", "Counterexample", "Formula", "Game", "Judgement",
+           "Lasso", "Ran", "Realizability", "Refusal", "Solution", "bound", "run", "solve", "verify", "version"]

@@ -247,6 +247,8 @@ def run(words: Sequence[str], input: bytes = b"", file: bytes = b"") -> Ran:
     """What the program `omega` does with these words after its name, with this standard input; each file that the
     words name, the operand too, has the text `file`, whatever its name. It runs again if it wrote more than 65,536
     bytes and four times its input."""
+    if isinstance(words, str):
+        raise TypeError(f"a list of words has to be given, and not the string {words!r}")
     if any("\0" in word for word in words):
         raise ValueError("a word has a NUL")
     line = b"".join(word.encode("utf-8", "surrogateescape") + b"\0" for word in words)

@@ -2,15 +2,18 @@
 from __future__ import annotations
 
 import re
-from collections.abc import Iterable
+from collections.abc import Callable, Iterable
 from dataclasses import dataclass, field
+from functools import partial
 from typing import TYPE_CHECKING
 
 from .games import Game
 from .languages import decided, given
+from .names import Names, listed
 from .texts import Text, bytes_of, picture, ran, str_of, written
 
 if TYPE_CHECKING:
+    from .circuits import Circuit
     from .formulas import Formula
 
 # An item of the header of a canonical text, with its name and its values; a value that is a string.
@@ -71,9 +74,22 @@ class Realizability:
     environment against which no system keeps it."""
     realizable: bool
     automaton: Automaton
+    # Decides the same by a circuit: whether there is one, and its text.
+    _circuit: Callable[[], tuple[bool, bytes]] = field(repr=False, compare=False)
 
     def __bool__(self) -> bool:
         return self.realizable
+
+    def circuit(self) -> Circuit | None:
+        """A circuit that keeps the specification whatever its environment does, which is judged before it is returned;
+        None only if no system keeps it. Its inputs and outputs are the names of the environment and of the system.
+        Each call makes it anew. Raises `Refusal` 42 or 55 if it would be too large, and 78 if the name of a proposition
+        is empty or has a line feed."""
+        if not self.realizable:
+            return None
+        from .circuits import Circuit
+        is_made, text = self._circuit()
+        return Circuit(text) if is_made else None
 
     def _repr_svg_(self) -> str:
         return self.automaton._repr_svg_()
@@ -163,19 +179,19 @@ class Automaton:
         """Whether each word that this automaton accepts satisfies a formula. A name that the automaton does not have
         is free. Raises `Refusal` 55 if the automaton of the negated formula, or its product with this one, is too
         large."""
-        return decided("satisfies", [self._text, _formula_bytes(formula)], 0)[0]
+        return decided("satisfies", [self._text, formula_bytes(formula)], 0)[0]
 
     def violation(self, formula: Formula | Text) -> Lasso | None:
         """An accepting lasso with a word that does not satisfy the formula; None only if there is no such word. Raises
         `Refusal` as `satisfies` does."""
-        satisfied, lines = decided("satisfies", [self._text, _formula_bytes(formula)], 1)
+        satisfied, lines = decided("satisfies", [self._text, formula_bytes(formula)], 1)
         return None if satisfied else Lasso._of(lines.removeprefix(b"no\n"), self)
 
     def controlling(self, propositions: Iterable[str]) -> Automaton:
         """This automaton as a specification for a system that controls these propositions, by their names: its item
         `controllable-AP:` lists them. Raises ValueError if there is no proposition of a name."""
         places = {name: place for place, name in enumerate(self.propositions)}
-        controlled = list(propositions)
+        controlled = listed(propositions)
         unknown = [name for name in controlled if name not in places]
         if unknown:
             raise ValueError(f"no proposition is named {unknown[0]!r}")
@@ -184,18 +200,19 @@ class Automaton:
         item = "controllable-AP:" + "".join(f" {places[name]}" for name in controlled) + "\n"
         return Automaton(others + item.encode() + self._text[items[-1].end():])
 
-    def realize(self, controlled: Iterable[str] | None = None) -> Realizability:
+    def realize(self, controlled: Names = None) -> Realizability:
         """Whether some system keeps this specification, a deterministic parity automaton, whatever its environment
         does. The system controls these propositions, or those that the item `controllable-AP:` lists. Raises `Refusal`
         40, 41, 42, 55, 56 or 58, or one of the game that is solved."""
-        specification = self if controlled is None else self.controlling(controlled)
-        realizable, text = decided("realize", [specification._text])
-        return Realizability(realizable, Automaton(text))
+        texts = [self._text if controlled is None else self.controlling(controlled)._text]
+        realizable, text = decided("realize", texts)
+        return Realizability(realizable, Automaton(text), partial(decided, "realize_circuit", texts, 0))
 
-    def realized_by(self, controller: Automaton) -> bool:
-        """Whether an automaton of anyone's making is a controller for this specification. The system controls the
-        propositions that the item `controllable-AP:` of the controller lists."""
-        return ran(["verify", "--specification", "specification"], controller._text, self._text).status == 0
+    def realized_by(self, controller: Automaton | Circuit) -> bool:
+        """Whether an automaton or a circuit of anyone's making is a controller for this specification. The system
+        controls the propositions that the item `controllable-AP:` of an automaton lists, or the outputs of a
+        circuit."""
+        return ran(["verify", "--specification", "specification"], bytes(controller), self._text).status == 0
 
     def refuted_by(self, strategy: Automaton) -> bool:
         """Whether an automaton of anyone's making is a counter-strategy for this specification: a strategy of the
@@ -216,6 +233,6 @@ class Automaton:
         return picture(bytes_of(self.draw()))
 
 
-def _formula_bytes(formula: Formula | Text) -> bytes:
+def formula_bytes(formula: Formula | Text) -> bytes:
     """The text of a formula, or the text that is given in place of one."""
     return bytes_of(formula) if isinstance(formula, str) else bytes(formula)

@@ -1,32 +1,16 @@
 """Formulas of linear temporal logic from texts as Spot has them."""
 from __future__ import annotations
 
-from collections.abc import Iterable
-from typing import Optional
+from functools import partial
+from typing import TYPE_CHECKING
 
 from .automata import Automaton, Realizability
 from .languages import decided, given
+from .names import Names, comma_list, nul_list, one_list
 from .texts import Text, bytes_of, ran, str_of
 
-# What the program takes for white space, and drops around a name in a list.
-WHITE_SPACE = " \t\n\f\r"
-# Names of a formula, as a caller gives them.
-Names = Optional[Iterable[str]]
-
-
-def _one_list(outs: Names, ins: Names) -> tuple[bool, list[str]]:
-    """Whether the names are those of the environment, and the names. Raises TypeError unless one list is given."""
-    if (outs is None) == (ins is None):
-        raise TypeError("either outs or ins has to be given")
-    return (True, list(ins)) if ins is not None else (False, list(outs or ()))
-
-
-def _listed(names: list[str]) -> str:
-    """A list of names as the program reads it. Raises ValueError for a name that no list can have."""
-    for name in names:
-        if not name or "," in name or name.strip(WHITE_SPACE) != name:
-            raise ValueError(f"no list of names can have {name!r}")
-    return ",".join(names)
+if TYPE_CHECKING:
+    from .circuits import Circuit
 
 
 class Formula:
@@ -74,19 +58,18 @@ class Formula:
         return Automaton(given("ltl_deterministic", [self._text]))
 
     def realize(self, outs: Names = None, ins: Names = None) -> Realizability:
-        """Whether some system satisfies the formula whatever its environment does, with a controller, or with a strategy
-        of the environment against which no system does. The system controls the names `outs`, or all but `ins`. Raises
-        `Refusal` 58 if the formula lacks a name, 42 or 55, or one of the game that is solved."""
-        inputs, names = _one_list(outs, ins)
-        if any("\0" in name for name in names):
-            raise ValueError("a name has a NUL")
-        listed = b"".join(bytes_of(name) + b"\0" for name in names)
-        realizable, text = decided("realize_formula", [self._text, listed], int(inputs))
-        return Realizability(realizable, Automaton(text))
+        """Whether some system satisfies the formula whatever its environment does, with a controller, or with a
+        strategy of the environment against which no system does. The system controls the names `outs`, or all but
+        `ins`. Raises `Refusal` 58 if the formula lacks a name, 42 or 55, or one of the game that is solved."""
+        inputs, names = one_list(outs, ins)
+        texts = [self._text, nul_list(names)]
+        realizable, text = decided("realize_formula", texts, int(inputs))
+        circuit = partial(decided, "realize_formula_circuit", texts, int(inputs), 0)
+        return Realizability(realizable, Automaton(text), circuit)
 
-    def realized_by(self, controller: Automaton, outs: Names = None, ins: Names = None) -> bool:
-        """Whether an automaton of anyone's making is a controller for this formula. The names are parted as for
-        `realize`. Raises ValueError for a name with a comma in it or white space around it."""
+    def realized_by(self, controller: Automaton | Circuit, outs: Names = None, ins: Names = None) -> bool:
+        """Whether an automaton or a circuit of anyone's making is a controller for this formula. The names are parted
+        as for `realize`. Raises ValueError for a name with a comma in it or white space around it."""
         return ran(["verify", *self._asked(outs, ins)], bytes(controller)).status == 0
 
     def refuted_by(self, strategy: Automaton, outs: Names = None, ins: Names = None) -> bool:
@@ -96,8 +79,8 @@ class Formula:
 
     def _asked(self, outs: Names, ins: Names) -> list[str]:
         """The words of a command line with this formula and one list of names."""
-        inputs, names = _one_list(outs, ins)
-        return ["-f", str(self), "--ins" if inputs else "--outs", _listed(names)]
+        inputs, names = one_list(outs, ins)
+        return ["-f", str(self), "--ins" if inputs else "--outs", comma_list(names)]
 
     def _repr_svg_(self) -> str:
         return self.automaton()._repr_svg_()

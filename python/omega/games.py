@@ -10,6 +10,7 @@ from typing import Any
 
 from .arrays import Arrays, Bounds, Counterexample, Numbers, Solution, Successors, bounded, judged, place_in, solved
 from .library import Refusal
+from .names import listed
 from .texts import Text, bytes_of, picture, ran, str_of, written
 
 # A line of the canonical text: identifier, priority, owner, successors and name.
@@ -48,11 +49,11 @@ class Game:
         60."""
         arrays = Arrays(priorities, owners, successors)
         bounded(arrays)
-        listed: list[str | None] = [None] * arrays.nodes if names is None else list(names)
-        if len(listed) != arrays.nodes:
-            raise ValueError(f"there are {len(listed)} names for {arrays.nodes} nodes")
+        named: list[str | None] = [None] * arrays.nodes if names is None else listed(names)
+        if len(named) != arrays.nodes:
+            raise ValueError(f"there are {len(named)} names for {arrays.nodes} nodes")
         priorities, owners, starts, targets = (array_of(each) for each in arrays.held)
-        return cls(array("I", range(arrays.nodes)), priorities, owners, starts, targets, listed)
+        return cls(array("I", range(arrays.nodes)), priorities, owners, starts, targets, named)
 
     @classmethod
     def _of_canonical(cls, text: bytes) -> Game:

@@ -18,7 +18,9 @@ NAMES = {1: "Lex", 2: "Number", 3: "Syntax", 4: "TooLong", 13: "TooManyNodes", 1
          26: "Proposition", 27: "Alias", 28: "StateTwice", 29: "MixedLabels", 30: "ImplicitCount",
          31: "AcceptanceAtom", 32: "TooDeep", 33: "Expansion", 40: "NotParity", 41: "UniversalBranch",
          42: "TooManyPropositions", 50: "TooWide", 51: "Budget", 53: "BadSolution", 55: "TooLarge",
-         56: "NotDeterministic", 57: "BadShape", 58: "Controllable", 59: "Unjudged", 60: "Memory"}
+         56: "NotDeterministic", 57: "BadShape", 58: "Controllable", 59: "Unjudged", 60: "Memory", 70: "Variables",
+         71: "LiteralRange", 72: "Defined", 73: "Undefined", 74: "Cycle", 75: "Reset", 76: "Symbol", 77: "Properties",
+         78: "Name"}
 
 
 class Refusal(Exception):
@@ -124,9 +126,15 @@ def _declared(library: ctypes.CDLL) -> ctypes.CDLL:
     calls: list[tuple[str, list[Any]]] = [
         ("empty", [*text, ctypes.c_uint8]), ("complement", [*text]), ("meet", [*text, *text]),
         ("contained", [*text, *text, ctypes.c_uint8, verdict]), ("equal", [*text, *text, ctypes.c_uint8, verdict]),
-        ("realize", [*text, verdict]), ("formula", [*text]), ("ltl", [*text, ctypes.c_uint8]), ("ltl_deterministic", [*text]),
+        ("realize", [*text, verdict]), ("formula", [*text]), ("ltl", [*text, ctypes.c_uint8]),
+        ("ltl_deterministic", [*text]),
         ("realize_formula", [*text, *text, ctypes.c_uint8, verdict]),
-        ("satisfies", [*text, *text, ctypes.c_uint8, verdict])]
+        ("satisfies", [*text, *text, ctypes.c_uint8, verdict]),
+        ("circuit", [*text, ctypes.c_uint8]), ("circuit_automaton", [*text]),
+        ("verify_circuit", [*text, *text, ctypes.c_uint8, verdict]),
+        ("verify_formula_circuit", [*text, *text, *text, ctypes.c_uint8, ctypes.c_uint8, verdict]),
+        ("realize_circuit", [*text, ctypes.c_uint8, verdict]),
+        ("realize_formula_circuit", [*text, *text, ctypes.c_uint8, ctypes.c_uint8, verdict])]
     for name, words in calls:
         call = getattr(library, f"omega_{name}")
         call.argtypes, call.restype = [*words, held], TextOutcome

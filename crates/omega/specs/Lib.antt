@@ -9,3 +9,4 @@ pub mod Verifying
 pub mod Bounding
 pub mod Running
 pub mod Synthesis
+pub mod Circuits

@@ -7,6 +7,8 @@ use Rattle.omega_text.specs.declared.refusal.Refusal.{Refusal}
 use Rattle.omega_text.specs.declared.refusal.Refusal.TheVariants.{Memory}
 use Rattle.omega_cli_command.specs.declared.request.Request.{Request}
 use Rattle.omega_cli_command.specs.declared.request.Request.TheVariants.{Fault}
+use Rattle.omega_io.specs.Exit.{refusal_status}
+use Rattle.omega_io.specs.RefusalLine.{line_of}
 use Rattle.omega_io.specs.Writing.{Tells}
 use Rattle.omega_io.specs.declared.unread.Unread.{Unread}
 use Rattle.omega_run.specs.Obey.{IsObeyed}
@@ -54,14 +56,13 @@ abbrev pub IsAsked : List ℕ → Result Request Refusal → Type 0
 IsAsked words (Ok request) = IsRequestOfWords words request
 IsAsked words (Err refusal) = refusal ≡ Memory
 
--- the program obeyed the command line over texts in memory, whatever is left of the input, and however many writes
--- found no memory: no read fails, and the system has no reason for a failure
-pub record IsObeyedSomehow (reads : List ℕ → List ℕ → Type 0) (refuses : List ℕ → Unread → Type 0)
+-- the program obeyed the command line over texts in memory, whatever is left of the input, and so many writes found no
+-- memory: no read fails, and the system has no reason for a failure
+pub record IsObeyedOver (reads : List ℕ → List ℕ → Type 0) (refuses : List ℕ → Unread → Type 0)
     (asked : Result Request Refusal) (status : ℕ) (reported reported' : Option (List ℕ))
-    (failed_tells : ℕ) (before : Streams) (held : Option (List ℕ)) : Type 0 where
+    (failed_tells failed_tells' : ℕ) (before : Streams) (held : Option (List ℕ))
+    (failed_writes : ℕ) : Type 0 where
   pub unread : Option (List ℕ)
-  pub failed_writes : ℕ
-  pub failed_tells' : ℕ
   pub obeyed : IsObeyed asked status (record {
     reads = reads;
     refuses = refuses;
@@ -70,14 +71,21 @@ pub record IsObeyedSomehow (reads : List ℕ → List ℕ → Type 0) (refuses :
     tells = Tells reported reported' failed_tells failed_tells';
   })
 
--- the program obeyed the words, with the input, while each file had the text; it wrote the output and the errors
+-- the program obeyed the words, with the input, while each file had the text; it wrote the output and the errors. No
+-- read and no write failed
 pub record IsProgramRun (words input file : List ℕ) (status : ℕ)
     (output errors : List ℕ) : Type 0 where
   pub asked : Result Request Refusal
   pub read : IsAsked words asked
-  pub obeyed : IsObeyedSomehow (λ name text. text ≡ file)
-      (λ name unread. unread.refusal ≡ Memory) asked status (Some []) (Some errors) 0
-      (streams (Some input) 0 None (Some []) 0 None) (Some output)
+  pub obeyed : IsObeyedOver (λ name text. text ≡ file)
+      (λ name unread. unread.refusal ≡ Memory) asked status (Some []) (Some errors) 0 0
+      (streams (Some input) 0 None (Some []) 0 None) (Some output) 0
+
+-- there was no memory for what the program writes: the line of that refusal is all that is written
+pub record IsWithoutMemory (status : ℕ) (output errors : List ℕ) : Type 0 where
+  pub ended : status ≡ refusal_status Memory
+  pub silent : output ≡ []
+  pub line : errors ≡ line_of Memory
 
 -- what `omega_run` leaves: as much of the output and of the errors as there was room for, and how long they are
 pub record IsRunOutcome (words input file : List ℕ) (ran : Ran)
@@ -85,6 +93,7 @@ pub record IsRunOutcome (words input file : List ℕ) (ran : Ran)
   pub written : List ℕ
   pub reported : List ℕ
   pub run : IsProgramRun words input file ran.status written reported
+      ⊎ IsWithoutMemory ran.status written reported
   pub output_length : ran.output ≡ length written
   pub errors_length : ran.errors ≡ length reported
   pub output_laid : output' ≡ laid_over written output

@@ -1,8 +1,13 @@
-//! The library `omega` for programs in C, C++ and Python: games as arrays, automata as texts, and the program as a
-//! function. Each export begins with the crate's name, and states again what the call states that it hands on.
+//! The library `omega` for programs in C, C++ and Python: games as arrays, automata, formulas and circuits as texts,
+//! and the program as a function. Each export begins with the crate's name, and states again what the call states that
+//! it hands on.
 #![tactic(auto)]
 
 mod bounding;
+mod circuit_form;
+mod circuit_realizing;
+mod circuit_verifying;
+mod circuits;
 mod complementing;
 mod containing;
 mod emptiness;

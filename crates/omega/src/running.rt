@@ -1,9 +1,10 @@
 //! The program as a function: a command line is obeyed over texts in memory.
-ghost use Rattle.std.specs.Prelude.{◌≡◌, ◌-◌, ◌^◌, ◌<◌, IfOk, IsOkUnless};
+ghost use Rattle.std.specs.Prelude.{◌≡◌, ◌≢◌, ◌-◌, ◌^◌, ◌<◌, IfOk, IfSome, IsOkUnless};
+ghost use Rattle.omega_io.specs.Exit.{refusal_status};
 ghost use Rattle.omega_run.specs.World.{streams_of};
-ghost use Rattle.omega_text.specs.declared.refusal.Refusal.TheVariants.{Memory};
+ghost use Rattle.omega_text.specs.declared.refusal.Refusal.TheVariants.{Io, Memory};
 ghost use Rattle.omega_cli_command.specs.Request.{IsRunnable};
-ghost use Rattle.omega.specs.Running.{IsRequestOfWords, IsObeyedSomehow, IsProgramRun, IsRunOutcome};
+ghost use Rattle.omega.specs.Running.{IsRequestOfWords, IsObeyedOver, IsProgramRun, IsRunOutcome};
 
 mod files;
 mod memory_output;
@@ -13,9 +14,12 @@ use files::OneFile;
 use memory_output::MemoryOutput;
 use omega_arrays::copy_into;
 use omega_cli::read_words;
-use omega_run::{HeldText, Input, InputFiles, Output, Refusal, Request, obey};
+use omega_run::{HeldText, Input, InputFiles, Output, Refusal, Request, exit_code, obey};
 use std::alloc::Global;
 use words::words_in;
+
+/// The line of a run that has no memory for what it writes.
+const WITHOUT_MEMORY: &[u8] = b"omega: 60 Memory\n";
 
 /// What a run left.
 #[repr(C)]
@@ -32,7 +36,8 @@ pub struct Ran {
 /// Does what the program does with a command line, whose words after the program's name are each ended by a NUL. The
 /// rest after the last NUL is not read. `input` is the standard input, and each file that a word names, the operand
 /// too, has the text `file`. The output and the errors are copied as far as there is room for them, and their whole
-/// lengths are given.
+/// lengths are given. No read and no write fails, and [Refusal::Io] does not come: if there is no memory for what the
+/// program writes, the status and the line of [Refusal::Memory] are given, and no output.
 #[unsafe(no_mangle)]
 pub extern "C" fn omega_run(
     alloc: Global,
@@ -42,16 +47,28 @@ pub extern "C" fn omega_run(
     output: &mut [u8],
     errors: &mut [u8],
 ) -> Ran
-    ensures { IsRunOutcome words.now input.now file.now result output.old output.new
+    ensures outcome { IsRunOutcome words.now input.now file.now result output.old output.new
         errors.old errors.new }
+    ensures unbroken { result.status ≢ refusal_status Io }
 {
-    let left = left_by(alloc, words, input, file);
-    copy_into(left.output.as_slice(), output);
-    copy_into(left.errors.as_slice(), errors);
-    Ran {
-        status: left.status as u32,
-        output: left.output.len() as u64,
-        errors: left.errors.len() as u64,
+    match left_by(alloc, words, input, file) {
+        Some(left) => {
+            copy_into(left.output.as_slice(), output);
+            copy_into(left.errors.as_slice(), errors);
+            Ran {
+                status: left.status as u32,
+                output: left.output.len() as u64,
+                errors: left.errors.len() as u64,
+            }
+        }
+        None => {
+            copy_into(WITHOUT_MEMORY, errors);
+            Ran {
+                status: exit_code(&Err(Refusal::Memory)) as u32,
+                output: 0,
+                errors: WITHOUT_MEMORY.len() as u64,
+            }
+        }
     }
 }
 
@@ -63,10 +80,12 @@ struct Left {
     errors: Vec<u8>,
 }
 
-/// Obeys the words over the input, with the text `file` for each file.
-fn left_by(alloc: Global, words: &[u8], input: &[u8], file: &[u8]) -> Left
-    ensures { IsProgramRun words.now input.now file.now result.status
-        result.output.items result.errors.items }
+/// Obeys the words over the input, with the text `file` for each file. Returns none if a write failed: there was no
+/// memory for what the program writes.
+fn left_by(alloc: Global, words: &[u8], input: &[u8], file: &[u8]) -> Option<Left>
+    ensures run { IfSome result (λ left. IsProgramRun words.now input.now file.now left.status
+        left.output.items left.errors.items) }
+    ensures unbroken { IfSome result (λ left. left.status ≢ refusal_status Io) }
 {
     let asked = asked_of(alloc, words);
     let files = OneFile::new(file);
@@ -81,15 +100,19 @@ fn left_by(alloc: Global, words: &[u8], input: &[u8], file: &[u8]) -> Left
         &mut writing,
         &mut telling,
     );
-    Left {
+    // The status says that a write to the output failed, and not that one to the errors did.
+    let is_broken = status == exit_code(&Err(Refusal::Io));
+    if is_broken || writing.failures() > 0 || telling.failures() > 0 {
+        return None;
+    }
+    Some(Left {
         status,
         output: writing.into_bytes(),
         errors: telling.into_bytes(),
-    }
+    })
 }
 
-/// Obeys a command line over texts in memory, and returns its status. The contract leaves out the rest of the input,
-/// and how many writes found no memory.
+/// Obeys a command line over texts in memory, and returns its status. The contract leaves out the rest of the input.
 fn status_of<'f, 'i>(
     alloc: Global,
     asked: Result<Request, Refusal>,
@@ -101,12 +124,12 @@ fn status_of<'f, 'i>(
     requires runnable { IfOk asked IsRunnable }
     requires writes { ⟦<MemoryOutput as Output>⟧.failed output.old < 2 ^ 64 - 1 }
     requires tells { ⟦<MemoryOutput as Output>⟧.failed errors.old < 2 ^ 64 - 1 }
-    ensures { IsObeyedSomehow (⟦<OneFile<'f> as InputFiles>⟧.reads files.now)
+    ensures { IsObeyedOver (⟦<OneFile<'f> as InputFiles>⟧.reads files.now)
         (⟦<OneFile<'f> as InputFiles>⟧.refuses files.now) asked result
         (⟦<MemoryOutput as Output>⟧.contents errors.old) (⟦<MemoryOutput as Output>⟧.contents errors.new)
-        (⟦<MemoryOutput as Output>⟧.failed errors.old)
+        (⟦<MemoryOutput as Output>⟧.failed errors.old) (⟦<MemoryOutput as Output>⟧.failed errors.new)
         (streams_of ⟦<HeldText<'i> as Input>⟧ ⟦<MemoryOutput as Output>⟧ input.old output.old)
-        (⟦<MemoryOutput as Output>⟧.contents output.new) }
+        (⟦<MemoryOutput as Output>⟧.contents output.new) (⟦<MemoryOutput as Output>⟧.failed output.new) }
 {
     obey(alloc, asked, files, input, output, errors)
 }

@@ -62,7 +62,7 @@ fn formula_winner(
 }
 
 /// Lends names as those of one side.
-fn one_list(inputs: bool, names: &[ByteString]) -> GivenNames<'_>
+pub(crate) fn one_list(inputs: bool, names: &[ByteString]) -> GivenNames<'_>
     ensures { lists_of result ≡ one_list inputs names.now }
 {
     if inputs {
@@ -79,7 +79,7 @@ fn one_list(inputs: bool, names: &[ByteString]) -> GivenNames<'_>
 }
 
 /// Returns the names that a text lists, each ended by a NUL.
-fn listed_names(alloc: Global, text: &[u8]) -> Result<Vec<ByteString>, AllocError>
+pub(crate) fn listed_names(alloc: Global, text: &[u8]) -> Result<Vec<ByteString>, AllocError>
     ensures { IfOk result (λ names. names.items ≡ names_of text.now) }
 {
     let mut names = Vec::new(alloc);

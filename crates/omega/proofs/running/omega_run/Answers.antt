@@ -1,16 +1,21 @@
--- `omega_run`: what a run leaves, copied as far as there is room.
-use Rattle.std.proofs.Common.{List, ℕ, ap, ◌∙◌, rules}
-use Rattle.omega_arrays.specs.Room.{laid_over}
+-- `omega_run`: without memory for what the program writes, the line that says so is copied.
+use Rattle.std.proofs.Common.{[], inr, refl, rules}
+use Rattle.std.specs.Prelude.{codes}
+use Rattle.omega.proofs.Runs.{memory_line}
 use Rattle.omega.proofs.running.omega_run.Goals as goal
 
-pub returns : goal.returns
-returns c =
+pub returns-in-None-clause-outcome : goal.returns-in-None-clause-outcome
+returns-in-None-clause-outcome c =
     record {
-      written = c.left_by-left.result.output.items;
-      reported = c.left_by-left.result.errors.items;
-      run = c.left_by-left.ensures;
-      output_length = search rules;
-      errors_length = search rules;
-      output_laid = c.copy_into.ensures ∙ ap (λ (xs : List ℕ). laid_over xs c.args.output.now) c.as_slice.ensures.value;
-      errors_laid = c.copy_into-2.ensures ∙ ap (λ (xs : List ℕ). laid_over xs c.args.errors.now) c.as_slice-2.ensures.value;
+      written = [];
+      reported = codes "omega: 60 Memory\n";
+      run = inr (record {
+        ended = c.exit_code.ensures;
+        silent = refl;
+        line = memory_line;
+      });
+      output_length = refl;
+      errors_length = refl;
+      output_laid = search rules;
+      errors_laid = c.copy_into-in-None.ensures;
     }
