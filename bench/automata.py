@@ -4,8 +4,10 @@ from collections.abc import Callable, Iterable
 
 from families import DEFAULT_SEED
 
-# The marks of a state, and of each of its edges the label or none, the target and the marks.
-State = tuple[list[int], list[tuple[str | None, int, list[int]]]]
+# The label of an edge or none, its target and its marks.
+Edge = tuple[str | None, int, list[int]]
+# The marks of a state, and its edges.
+State = tuple[list[int], list[Edge]]
 
 # How many pairs, or parts, the acceptance of the families for the search has.
 PAIRS = 8

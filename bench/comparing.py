@@ -3,7 +3,7 @@ contained in the second? The first two have four edges a state, labelled by the 
 others labels of many propositions."""
 import random
 
-from automata import State, body, header
+from automata import Edge, State, body, header
 from families import DEFAULT_SEED
 
 LABELS = ["!0&!1", "0&!1", "!0&1", "0&1"]
@@ -43,7 +43,7 @@ def minterm(number: int, propositions: int) -> str:
 
 def valuations(propositions: int) -> Pair:
     """One state with an edge for each valuation of the propositions, in itself."""
-    row = [(minterm(number, propositions), 0, [0]) for number in range(1 << propositions)]
+    row: list[Edge] = [(minterm(number, propositions), 0, [0]) for number in range(1 << propositions)]
     text = header(1, propositions, "Inf(0)", 1, "Buchi") + body([([], row)])
     return text, text
 
@@ -55,9 +55,11 @@ def literals(states: int, propositions: int, seed: float = DEFAULT_SEED) -> Pair
     def label(first: int) -> str:
         return minterm(first | draw.getrandbits(propositions - 3) << 3, propositions)
 
-    rows = [([], [(label(first), draw.randrange(states), [0]) for first in range(5)]) for _ in range(states)]
+    rows: list[State] = [
+        ([], [(label(first), draw.randrange(states), [0]) for first in range(5)]) for _ in range(states)]
     names = header(states, propositions, "Inf(0)", 1, "Buchi")
-    return names + body(rows), header(1, propositions, "Inf(0)", 1, "Buchi") + body([([], [("0", 0, [0]), ("!0", 0, [0])])])
+    rule: list[State] = [([], [("0", 0, [0]), ("!0", 0, [0])])]
+    return names + body(rows), header(1, propositions, "Inf(0)", 1, "Buchi") + body(rule)
 
 
 def arbiter(clients: int) -> Pair:
@@ -65,15 +67,16 @@ def arbiter(clients: int) -> Pair:
     clients that wait, and the one whose turn it is, which is passed on when that client does not wait."""
     subsets = 1 << clients
 
-    def edge(waiting: int, turn: int, requests: int, granted: int) -> tuple[str, int, list[int]]:
+    def edge(waiting: int, turn: int, requests: int, granted: int) -> Edge:
         left = (waiting | requests) & ~granted
         passed = not left >> turn & 1
         following = (turn + 1) % clients if passed else turn
         return minterm(requests | granted << clients, 2 * clients), left * clients + following, [0] if passed else []
 
     grants = [0] + [1 << client for client in range(clients)]
-    rows = [([], [edge(waiting, turn, requests, granted) for requests in range(subsets) for granted in grants])
-            for waiting in range(subsets) for turn in range(clients)]
+    rows: list[State] = [
+        ([], [edge(waiting, turn, requests, granted) for requests in range(subsets) for granted in grants])
+        for waiting in range(subsets) for turn in range(clients)]
     text = header(len(rows), 2 * clients, "Inf(0)", 1, "Buchi") + body(rows)
     return text, text
 

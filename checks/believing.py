@@ -131,6 +131,13 @@ COMMANDS = {
     "realize -f --game": ("AnswersSynthesis: Game",),
     "verify -f": ("AnswersFormulaJudge: Controller", "RefusesFormulaJudge: Controller"),
     "verify -f --counter-strategy": ("AnswersFormulaJudge: CounterStrategy", "RefusesFormulaJudge: CounterStrategy"),
+    "realize -f --aiger": ("AnswersSynthesis: Circuit",),
+    "check --format aiger": ("CheckCircuit",),
+    "canon --format aiger": ("CanonCircuit",),
+    "show --format aiger": ("ShowCircuit",),
+    "show --format aiger --json": ("ShowCircuitJson",),
+    "automaton": ("CircuitAutomaton",),
+    "realize --aiger": ("RealizeCircuit",),
     "game": ("AnswersOneText: Game",),
     "draw --format hoa": ("DrawAutomaton", "DrawLasso"),
 }
@@ -140,7 +147,10 @@ EXPORTS = {"omega_solve": "solving", "omega_verify": "verifying", "omega_bound":
            "omega_meet": "meeting", "omega_complement": "complementing", "omega_contained": "containing",
            "omega_equal": "containing", "omega_realize": "realizing", "omega_formula": "formulas",
            "omega_ltl": "formulas", "omega_ltl_deterministic": "formulas", "omega_satisfies": "formulas",
-           "omega_realize_formula": "synthesis", "omega_run": "running"}
+           "omega_realize_formula": "synthesis", "omega_circuit": "circuits", "omega_circuit_automaton": "circuits",
+           "omega_verify_circuit": "circuit_verifying", "omega_verify_formula_circuit": "circuit_verifying",
+           "omega_realize_circuit": "circuit_realizing", "omega_realize_formula_circuit": "circuit_realizing",
+           "omega_run": "running"}
 
 # The forms of the lines that begin at the left edge, beside comments: what is used, by names or by a short name of its
 # module; what a library hands on, and its parts; a declaration; a case of a definition, which begins with its name; and

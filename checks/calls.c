@@ -103,8 +103,9 @@ static void run(size_t room) {
         size_t seen = room < 9 ? room : 9;
         WANT(ran.output == 9 && ran.errors == 0 && memcmp(output, wanted, seen) == 0);
     } else {
-        WANT(may_be_refused && ran.output < 9);
-        WANT(ran.errors == 0 || (ran.status >= 4 && memcmp(errors, refused, room < 7 ? room : 7) == 0));
+        size_t seen = room < 17 ? room : 17;
+        WANT(may_be_refused && ran.status == 4 && ran.output == 0);
+        WANT(ran.errors == 17 && memcmp(errors, refused, seen) == 0);
     }
 }
 
@@ -165,6 +166,46 @@ static void languages(void) {
     omega_free(&text);
 }
 
+/* What is asked for is given in the same round, by a system that controls g, or by one that controls nothing; and a
+ * circuit that does so. */
+static const char grants[] =
+    "HOA: v1 States: 1 Start: 0 AP: 2 \"r\" \"g\" controllable-AP: 1 acc-name: all Acceptance: 0 t"
+    " --BODY-- State: 0 [!0 | 1] 0 --END--";
+static const char stuck[] =
+    "HOA: v1 States: 1 Start: 0 AP: 2 \"r\" \"g\" controllable-AP: acc-name: all Acceptance: 0 t"
+    " --BODY-- State: 0 [!0 | 1] 0 --END--";
+static const char wire[] = "aag 1 1 0 1 0\n2\n2\ni0 r\no0 g\n";
+static const char rule[] = "G(r -> g)", outs[] = "g\0", ins[] = "r\0";
+
+/* Each call that is given a circuit, or gives one. */
+static void circuits(void) {
+    omega_text text = OMEGA_NO_TEXT, before = text;
+    uint32_t yes = 7;
+    gave(omega_circuit(TEXT(wire), 0, &text), &text, wire, &before);
+    before = text;
+    gave(omega_circuit(TEXT(wire), 1, &text), &text, "aig 1 1 0 1 0\n2\ni0 r\no0 g\n", &before);
+    before = text;
+    gave(omega_circuit_automaton(TEXT(wire), &text), &text, "HOA: v1\nStates: 1\n", &before);
+    before = text;
+    if (gave(omega_verify_circuit(TEXT(wire), TEXT(grants), 1, &yes, &text), &text, "yes\n", &before)) {
+        WANT(yes == 1);
+    } else {
+        WANT(yes == 7);
+    }
+    before = text, yes = 7;
+    if (gave(omega_verify_formula_circuit(TEXT(wire), TEXT("G F g"), TEXT(outs), 0, 1, &yes, &text), &text,
+             "no\nstem", &before))
+        WANT(yes == 0);
+    before = text, yes = 7;
+    if (gave(omega_realize_circuit(TEXT(grants), 0, &yes, &text), &text, "aag ", &before)) WANT(yes == 1);
+    before = text, yes = 7;
+    if (gave(omega_realize_circuit(TEXT(stuck), 1, &yes, &text), &text, "unrealizable\n", &before)) WANT(yes == 0);
+    before = text, yes = 7;
+    if (gave(omega_realize_formula_circuit(TEXT(rule), TEXT(ins), 1, 1, &yes, &text), &text, "aig ", &before))
+        WANT(yes == 1);
+    omega_free(&text);
+}
+
 /* A text that is refused: which, and where. What was there stays. */
 static void refused_texts(void) {
     omega_text text = OMEGA_NO_TEXT;
@@ -176,6 +217,14 @@ static void refused_texts(void) {
     outcome = omega_complement(TEXT(broken), &text);
     if (outcome.number != OMEGA_MEMORY || !may_be_refused)
         WANT(outcome.number == OMEGA_LEX && outcome.text == 1 && outcome.place == 8);
+    WANT(!text.held);
+    outcome = omega_verify_circuit(TEXT(wire), TEXT(broken), 1, &yes, &text);
+    if (outcome.number != OMEGA_MEMORY || !may_be_refused)
+        WANT(outcome.number == OMEGA_LEX && outcome.text == 2 && outcome.place == 8);
+    WANT(yes == 7 && !text.held);
+    outcome = omega_circuit(TEXT(rule), 0, &text);
+    if (outcome.number != OMEGA_MEMORY || !may_be_refused)
+        WANT(outcome.number == OMEGA_SYNTAX && outcome.text == 1 && outcome.place == 0);
     WANT(!text.held);
     omega_free(&text);
 }
@@ -208,6 +257,7 @@ static void every(void) {
     version();
     shape();
     languages();
+    circuits();
     refused_texts();
 }
 

@@ -11,7 +11,7 @@ import sys
 import tempfile
 from functools import partial
 
-from libomega import BUILT, DOCTEST, blocks_of, ran_fault
+from libomega import BUILT, DOCTEST, examples_of, ran_fault
 from packages import PACKAGE, bytes_of, sums_fault
 from program import ROOT, SECONDS, Cases, Fault
 
@@ -35,11 +35,6 @@ def made(*words: str) -> None:
 def page() -> str:
     with open(os.path.join(ROOT, "docs", "library.md")) as file:
         return file.read()
-
-
-def outputs() -> list[bytes]:
-    """What the examples write: that in C, then that in Python."""
-    return [text.encode() for text in blocks_of(page(), "text")]
 
 
 def declared_names() -> set[str]:
@@ -69,7 +64,7 @@ def linked_checks(label: str, library: str, sysroot: str, folder: str) -> Cases:
     words = ["pkg-config", "--cflags", "--libs", "omega"]
     ran = subprocess.run(words, env=env, capture_output=True, text=True)
     yield f"{label}: pkg-config", ran.stderr or None
-    flags, source = shlex.split(ran.stdout), blocks_of(page(), "c")[0]
+    flags, (source, wanted) = shlex.split(ran.stdout), examples_of(page(), "c")[0]
     file = os.path.join(folder, "example.c")
     with open(file, "w") as out:
         out.write(source)
@@ -77,7 +72,7 @@ def linked_checks(label: str, library: str, sysroot: str, folder: str) -> Cases:
         program = os.path.join(folder, f"example-{kind}")
         ran = subprocess.run(["cc", "-o", program, file, *more], capture_output=True, text=True, timeout=SECONDS)
         path = {**os.environ, "LD_LIBRARY_PATH": library} if kind == "shared" else dict(os.environ)
-        yield f"{label}: the example in C, {kind}", ran.stderr or ran_fault([program], outputs()[0], path)
+        yield f"{label}: the example in C, {kind}", ran.stderr or ran_fault([program], wanted, path)
 
 
 def prefix_checks(room: str) -> Cases:
@@ -125,8 +120,8 @@ def wheel_checks(wheel: str, room: str) -> Cases:
     ran = subprocess.run([python, "-m", "pip", "install", "--no-index", "--quiet", wheel], env=env, cwd=room,
                          capture_output=True, text=True, timeout=SECONDS)
     yield "pip installs the wheel", ran.stderr if ran.returncode else None
-    for number, source in enumerate(blocks_of(page(), "python")):
-        yield f"wheel: example {number} in Python", partial(ran_fault, [python, "-c", source], outputs()[1], env)
+    for number, (source, wanted) in enumerate(examples_of(page(), "python")):
+        yield f"wheel: example {number} in Python", partial(ran_fault, [python, "-c", source], wanted, env)
     yield "wheel: the examples of docs/python.md", partial(ran_fault, [python, *DOCTEST], b"", env)
     words = [python, "-c", "import omega, os; print(os.path.dirname(omega.__file__))"]
     where = subprocess.run(words, env=env, cwd=room, capture_output=True, text=True).stdout

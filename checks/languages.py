@@ -247,7 +247,8 @@ def synthesis_checks(omega: Any) -> Cases:
             yield f"the list {names}", "it is taken"
         except ValueError:
             yield f"the list {names}", None
-    for lists in ({}, {"outs": ["a", "b"], "ins": ["r", "s"]}):
+    both_or_none: list[dict[str, list[str]]] = [{}, {"outs": ["a", "b"], "ins": ["r", "s"]}]
+    for lists in both_or_none:
         try:
             arbiter.realize(**lists)
             yield f"{len(lists)} lists", "they are taken"

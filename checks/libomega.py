@@ -1,8 +1,8 @@
 """The library for C and Python, where it is built (`make libomega`) or this family is named. Its examples run as they
 stand in `docs/library.md`. Random games are solved in both ways, and solutions, right and broken in one place, judged,
-against slow solvers; random automata are combined and decided, against a judge of words. Faults of shapes, what is no
-array of integers, threads and processes, the rows of `checks/rows.txt`, small stacks, and refused memory, which leaves
-arrays and texts alone, are tried.
+against slow solvers; random automata are combined and decided, against a judge of words; random circuits are made and
+judged, against the program as a function. Faults of shapes, what is no array of integers, threads and processes, the
+rows of `checks/rows.txt`, small stacks, and refused memory, which leaves arrays and texts alone, are tried.
 
 The games are solved from Python, and each fault of a shape is tried. The rows go through the program as a function. The
 cells of `examples/omega.ipynb` run one after the other, and show pictures where Graphviz's `dot` is installed.
@@ -21,6 +21,7 @@ from typing import Any
 
 import games
 from languages import language_checks
+from library_circuits import circuit_call_checks
 from notebook import notebook_checks
 from program import ROOT, SECONDS, Cases, Fault, run_of
 from rows import FAULT, ROWS, Row, rows_of
@@ -298,13 +299,15 @@ def ran_fault(words: list[str], wanted: bytes = b"", env: dict[str, str] | None 
     return None
 
 
-def blocks_of(page: str, language: str) -> list[str]:
-    """The blocks of a language in a part of a page of docs/ that ends with the next part."""
+def examples_of(page: str, language: str) -> list[tuple[str, bytes]]:
+    """The examples in a language in a part of a page of docs/ that ends with the next part. Each has what it is said to
+    write: the first text behind it."""
     part = page[page.index("## From C and Python"):]
     part = part[:part.find("\n## ", 5)] if "\n## " in part[5:] else part
     found = []
     for block in part.split(f"```{language}\n")[1:]:
-        found.append(block[:block.index("```")])
+        source, _, behind = block.partition("```")
+        found.append((source, behind.partition("```text\n")[2].partition("```")[0].encode()))
     return found
 
 
@@ -312,16 +315,15 @@ def example_checks(folder: str) -> Cases:
     """The examples of docs/library.md, as they stand, with what they are said to write."""
     with open(os.path.join(ROOT, "docs", "library.md")) as file:
         page = file.read()
-    wanted = [text.encode() for text in blocks_of(page, "text")]
-    for number, source in enumerate(blocks_of(page, "c")):
+    for number, (source, wanted) in enumerate(examples_of(page, "c")):
         made, said = compiled(folder, f"example{number}", source, STATIC)
-        yield f"example {number} in C", said or ran_fault([made], wanted[0])
+        yield f"example {number} in C", said or ran_fault([made], wanted)
         shared, said = compiled(folder, f"shared{number}", source, "-L", BUILT, "-lomega", f"-Wl,-rpath,{BUILT}")
-        yield f"example {number} in C, over the shared library", said or ran_fault([shared], wanted[0])
+        yield f"example {number} in C, over the shared library", said or ran_fault([shared], wanted)
     yield "the header in C++", partial(cplusplus_fault, folder)
     env = {**os.environ, "LIBOMEGA": SHARED, "PYTHONPATH": os.path.join(ROOT, "python")}
-    for number, source in enumerate(blocks_of(page, "python")):
-        yield f"example {number} in Python", partial(ran_fault, [sys.executable, "-c", source], wanted[1], env)
+    for number, (source, wanted) in enumerate(examples_of(page, "python")):
+        yield f"example {number} in Python", partial(ran_fault, [sys.executable, "-c", source], wanted, env)
     yield "the examples of docs/python.md", partial(ran_fault, [sys.executable, *DOCTEST], b"", env)
 
 
@@ -414,6 +416,7 @@ def libomega_checks() -> Cases:
     yield from shape_faults(omega)
     yield from wrapper_checks(omega)
     yield from language_checks(omega)
+    yield from circuit_call_checks(omega)
     yield from run_checks(omega)
     yield from row_runs(omega)
     yield from solved_games(omega)

@@ -72,7 +72,8 @@ def is_kept(steps: Steps, starts: Iterable[Any], names: list[bytes], specificati
 
 def steps_of(automaton: Automaton) -> Steps:
     """What an automaton does from each of its states: all letters at which an edge can be taken, with the targets."""
-    names, steps = names_of(automaton), Steps()
+    names = names_of(automaton)
+    steps: Steps = {}
     for state in {state.number for state in automaton.states} | {move.targets[0] for move in moves_of(automaton)} | {
             states[0] for states in automaton.said(b"Start:")}:
         steps[state] = []

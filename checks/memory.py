@@ -55,6 +55,11 @@ EACH = b"&".join(b"%d" % n for n in range(20))
 OFTEN = (b'HOA: v1 States: 1 Start: 0 AP: 1 "a" acc-name: Buchi Acceptance: 1 Inf(0) --BODY-- '
          b"State: 0 [0] 0 {0} [!0] 0 --END--")
 
+# A wire; and a circuit that answers one request and then waits for ever, in both forms.
+WIRE = b"aag 1 1 0 1 0\n2\n2\ni0 r\no0 g\n"
+WAITING = b"aag 3 1 1 1 1\n2\n4 7\n5\n6 3 5\ni0 r\no0 g\nc\n"
+IN_BINARY = b"REALIZABLE\naig 3 1 1 1 1\n7\n5\n\x01\x02i0 r\no0 g\n"
+
 NONE: list[str] = []
 # Words, the text on standard input, and the text in the file that is the last word, where there is one.
 Run = tuple[list[str], bytes, bytes | None]
@@ -75,6 +80,8 @@ RUNS: list[Run] = [
     *((["empty", "--search", "--word"], text, None) for text in (LETTERS, GRAPH, MANY % EACH, MANY % (EACH + b"&!7"))),
     *(([*words, "--stream"], BUCHI + ABORTED, None)
       for words in (["empty"], ["empty", "--search", "--word"], ["complement"], ["trim"])),
+    *(([*words, "--at-least", "2"], BUCHI + ABORTED, None)
+      for words in (["check"], ["trim", "--stream"], ["satisfies", "-f", "F a", "--stream"])),
     *((["contained", *more, "--stream", "--in"], BUCHI + ABORTED, OFTEN) for more in (NONE, ["--explain"])),
     *((["show", "--json", "--format", name], text, None) for name, text in (("pg", GAPS), ("hoa", ABORTED))),
     (["canon", "--format", "pg", "--min"], GAPS, None),
@@ -171,6 +178,19 @@ RUNS: list[Run] = [
       for more in (NONE, ["--controller"], ["--game"])),
     *((["realize", "-f", formula, "--outs", "g", "--controller"], b"", None)
       for formula in ("G(r -> !g) & G F g", "g U", "r")),
+    *((words, text, None) for text in (WAITING, IN_BINARY)
+      for words in (["check", "--format", "aiger"], ["show", "--format", "aiger"],
+                    ["show", "--format", "aiger", "--json"], ["canon", "--format", "aiger"], ["canon", "--binary"],
+                    ["automaton"])),
+    (["check"], b"", WAITING),
+    (["automaton", "-v"], b"aag 1 1 0 1 0\n02\n2\n", None),
+    *((["verify", *more, "--specification"], text, ARBITER) for more in (NONE, ["--explain"])
+      for text in (WIRE, WAITING, WIRE.replace(b"o0 g", b"o0 r"))),
+    *((["verify", "-f", "G(r -> g)", "--outs", "g", "--explain"], text, None) for text in (WIRE, IN_BINARY)),
+    *((["realize", "--aiger", *more], text, None)
+      for text, more in ((ARBITER, NONE), (ARBITER, ["--binary"]), (SERVANT, NONE), (GOALS, NONE))),
+    *((["realize", "--aiger", "-f", formula, "--outs", "g"], b"", None)
+      for formula in ("G(r -> X g)", "G(r -> !g) & G F g")),
     (["--help"], b"", None),
     (["solve", "--help"], b"", None),
     (["solve", "--player", "2"], b"", None),

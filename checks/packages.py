@@ -1,13 +1,17 @@
 """The archive and the Debian package: byte for byte the same when they are made twice, with the right SHA-256 sums. The
 program runs where they are unpacked or installed into an empty root, and nothing is left once the package is removed.
-Completions for bash offer what the help names; zsh and fish read theirs, where installed.
+Completions for bash offer what the help names; zsh and fish read theirs, where installed. At a terminal of its own each
+of these shells completes names with blanks, folders, and the file of an option behind its `=`.
 """
 import hashlib
 import os
+import pty
+import select
 import shutil
 import subprocess
 import sys
 import tempfile
+import time
 
 from program import OMEGA, ROOT, Cases, Fault
 
@@ -18,14 +22,40 @@ COMPLETIONS = "share/bash-completion/completions/omega"
 # What bash offers after these words.
 OFFERED = [
     (["omega", "so"], "solve"),
-    (["omega", "check", "--format", ""], "hoa pg"),
+    (["omega", "check", "--format", ""], "aiger hoa pg"),
     (["omega", "solve", "--pl"], "--player"),
     (["omega", "solve", "--player", ""], "0 1"),
     (["omega", "help", "em"], "empty"),
     (["omega", "satisfies", "--fo"], "--formula"),
     (["omega", "satisfies", "-f", ""], ""),
     (["omega", "verify", "--co"], "--counter-strategy"),
+    (["omega", "solve", "--player", "="], "0 1"),
+    (["omega", "check", "--format", "=", "h"], "hoa"),
 ]
+# The files that completions are tried among, and the words that a line comes to whose tabs are answered.
+FILES = ["many/g 0.pg", "many/deep/one.pg", "g5.pg", "solve/two.pg"]
+TYPED = [
+    ("omega solve many/g\t", ["solve", "many/g 0.pg"]),
+    ('omega solve "many/g\t', ["solve", "many/g 0.pg"]),
+    ("omega solve man\tg\t", ["solve", "many/g 0.pg"]),
+    ("omega solve many/d\to\t", ["solve", "many/deep/one.pg"]),
+    ("omega so\t g5\t", ["solve", "g5.pg"]),
+    ("omega verify --game=g\t", ["verify", "--game=g5.pg"]),
+    ("omega verify --game g\t", ["verify", "--game", "g5.pg"]),
+    ("omega verify --counter\t g5\t", ["verify", "--counter-strategy", "g5.pg"]),
+    ("omega -v so\t g5\t", ["-v", "solve", "g5.pg"]),
+    ("omega --verbose verify --game=g\t", ["--verbose", "verify", "--game=g5.pg"]),
+]
+# What fish offers for a line, without descriptions.
+OFFERED_BY_FISH = [
+    ("omega so", ["solve"]),
+    ("omega solve many/g", ["many/g 0.pg"]),
+    ("omega solve man", ["many/"]),
+    ("omega verify --game=g", ["--game=g5.pg"]),
+    ("omega -v so", ["solve"]),
+]
+# What a shell runs in place of the program: it writes its words, each between brackets.
+SHOWING = "omega() { printf '[%s]' \"$@\"; echo '<end>'; }; echo rea''dy"
 
 
 def made_in(folder: str) -> list[str]:
@@ -104,6 +134,56 @@ def offered_fault(script: str, words: list[str], wanted: str) -> Fault:
     return None if came == wanted else f"{came!r} for {wanted!r}: {run.stderr}"
 
 
+def come_until(terminal: int, mark: bytes) -> bytes:
+    """What comes from a terminal, up to a mark, or until a time has passed."""
+    seen, end = b"", time.monotonic() + 20
+    while mark not in seen and time.monotonic() < end:
+        if select.select([terminal], [], [], 0.2)[0]:
+            seen += os.read(terminal, 65536)
+    return seen
+
+
+def typed_fault(shell: list[str], setting: str, line: str, wanted: list[str], folder: str) -> Fault:
+    """What is wrong with the words that a shell at a terminal makes of a typed line."""
+    terminal, inner = pty.openpty()
+    place = {**os.environ, "TERM": "dumb", "HOME": folder}
+    run = subprocess.Popen(shell, cwd=folder, stdin=inner, stdout=inner, stderr=inner, env=place, start_new_session=True)
+    os.close(inner)
+    try:
+        os.write(terminal, f"{setting}; {SHOWING}\n".encode())
+        come_until(terminal, b"ready")
+        os.write(terminal, f"{line}\n".encode())
+        came = come_until(terminal, b"]<end>")
+    finally:
+        run.kill()
+        run.wait()
+        os.close(terminal)
+    shown = "".join(f"[{word}]" for word in wanted) + "<end>"
+    return None if shown.encode() in came else f"{came[-200:]!r} for {shown}"
+
+
+def typed_checks(prefix: str, folder: str) -> Cases:
+    """The completions at a terminal, of bash and of zsh, and what fish offers."""
+    for name in FILES:
+        os.makedirs(os.path.join(folder, os.path.dirname(name)), exist_ok=True)
+        open(os.path.join(folder, name), "wb").close()
+    bash = ["bash", "--norc", "--noprofile", "-i"], f"source '{os.path.join(prefix, COMPLETIONS)}'"
+    for line, wanted in TYPED:
+        yield f"bash completes {line!r}", typed_fault(*bash, line, wanted, folder)
+    if shutil.which("zsh"):
+        functions = os.path.join(prefix, "share/zsh/site-functions")
+        zsh = ["zsh", "-f", "-i"], f"fpath=('{functions}' $fpath); autoload -Uz compinit; compinit -u -D"
+        for line, wanted in TYPED:
+            yield f"zsh completes {line!r}", typed_fault(*zsh, line, wanted, folder)
+    if shutil.which("fish"):
+        script = os.path.join(prefix, "share/fish/vendor_completions.d/omega.fish")
+        for line, wanted in OFFERED_BY_FISH:
+            words = ["fish", "-c", f"source '{script}'; complete -C '{line}'"]
+            run = subprocess.run(words, capture_output=True, text=True, cwd=folder)
+            came = [row.split("\t")[0] for row in run.stdout.splitlines()]
+            yield f"fish completes {line!r}", None if came == wanted else f"{came} for {wanted}: {run.stderr}"
+
+
 def completion_checks(room: str) -> Cases:
     """The completions in each shell that is installed."""
     prefix = os.path.join(room, "prefix")
@@ -117,11 +197,7 @@ def completion_checks(room: str) -> Cases:
         if shutil.which(shell):
             run = subprocess.run([shell, "-n", os.path.join(prefix, path)], capture_output=True, text=True)
             yield f"{shell} reads its completions", run.stderr.strip() or None
-    if shutil.which("fish"):
-        script = os.path.join(prefix, "share/fish/vendor_completions.d/omega.fish")
-        words = ["fish", "-c", f"source '{script}'; complete -C 'omega so'"]
-        run = subprocess.run(words, capture_output=True, text=True)
-        yield "fish offers solve", None if run.stdout.split()[:1] == ["solve"] else repr(run.stdout)
+    yield from typed_checks(prefix, os.path.join(room, "typed"))
 
 
 def package_checks() -> Cases:

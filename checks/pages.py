@@ -3,11 +3,12 @@ below it. Pictures show what a command draws. Links lead to files, examples of `
 and the toolchain are those named, manual and help name the same, `docs/believe.md`, the tables of `docs/map.md` and
 this list are what the sources make, comments have at most 120 columns.
 
-Commands that need `dot` or `parallel` are passed over where these are not installed. What is drawn for `dot` is compared
-with the picture of that name in docs/pictures/ in any case, and each picture is made on some page. The README links
-every page. The examples of docs/library.md stand in the crate that is proved, word for word. Each crate's README.md
-agrees with crates.txt. The files of crates that a page names are there. The manual names the subcommands, options,
-refusals, statuses and numbers that the help names, and no others.
+Commands that need `dot`, `parallel` or abc are passed over where these are not installed. What is drawn for `dot` is
+compared with the picture of that name in docs/pictures/ in any case, and each picture is made on some page. The README
+links the first pages of both kinds of readers, `docs/users.md` and `docs/inside.md`, and these link all others. The
+examples of docs/library.md stand in the crate that is proved, word for word. Each crate's README.md agrees with
+crates.txt. The files of crates that a page names are there. The manual names the subcommands, options, refusals,
+statuses and numbers that the help names, and no others.
 
 A command stands in an indented block, behind `$ `. It goes on with the next line where it ends with a backslash or a
 pipe, or inside single quotes. Up to the next command stands what it writes, on standard output and standard error
@@ -36,9 +37,11 @@ MARK = "\x01done\x01"
 EXAMPLES = os.path.join("crates", "omega_tests", "src", "examples")
 SHELL = "sh"
 # Programs that a command may need, and without which it is passed over, by how the command calls them.
-PERHAPS = {"dot": r"\bdot -T", "parallel": r"\bparallel -"}
+PERHAPS = {"dot": r"\bdot -T", "parallel": r"\bparallel -", "berkeley-abc": r"\bberkeley-abc -q"}
 # A command that makes a picture: what draws, and the name of the picture.
 DRAWING = re.compile(r"(.*\bomega draw .*) \| dot -Tsvg > (\w+)\.svg", re.DOTALL)
+# The first pages: of users, and of those who check or change.
+FIRST = ("docs/users.md", "docs/inside.md")
 # Solvers that are shown in blocks that are not run.
 ELSEWHERE = ("pgsolver ", "oink ")
 
@@ -154,6 +157,16 @@ def file_checks(label: str, text: str) -> Cases:
     yield f"{label}: the files of crates that it names", f"{', '.join(missing)} is not there" if missing else None
 
 
+def first_page_checks(texts: dict[str, str]) -> Cases:
+    """The README links the first pages, and these each other page."""
+    for label in FIRST:
+        yield f"README.md links {label}", None if f"({label})" in texts["README.md"] else "it does not"
+    linked = "".join(texts[label] for label in FIRST)
+    for label in sorted(set(texts) - {*FIRST, "README.md"}):
+        path = os.path.relpath(label, "docs")
+        yield f"a first page links {label}", None if f"({path})" in linked else "none does"
+
+
 def made_checks(texts: Iterable[str]) -> Cases:
     """Each picture is made by a command of a page."""
     made = {name for text in texts for block in indented_blocks(text, 4) for command, _ in commands_of(block)
@@ -214,9 +227,7 @@ def page_checks() -> Cases:
             yield f"{label}: {line}", "it stands in a block that is not run"
         yield from link_checks(label, text)
         yield from file_checks(label, text)
-    for label in texts:
-        if label.startswith("docs/"):
-            yield f"README.md links {label}", None if f"({label})" in texts["README.md"] else "it does not"
+    yield from first_page_checks(texts)
     yield from made_checks(texts.values())
     yield from example_checks()
     yield from version_checks()

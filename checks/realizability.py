@@ -277,7 +277,7 @@ class Winner:
             edges = bodies[own].edges if own in bodies else []
             if self.lettered and [edge.targets for edge in edges] == [[own]] and self.is_letter(edges[0].label):
                 # No edge answers the letter of the state, which is written on an edge of its own.
-                self.note(bare(edges[0].label), state)
+                self.note(bare(edges[0].label or ("t",)), state)
                 continue
             for edge in edges:
                 move = self.next_like(bare(edge.label or ("t",)), state, waiting)

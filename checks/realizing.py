@@ -284,8 +284,10 @@ class Requirements(Speaking):
 
     def sides(self) -> tuple[list[bytes], list[bytes]]:
         """The names of the environment and of the system."""
-        ins, outs = self.random.choice([([b"r"], [b"s"]), ([b"r", b"q"], [b"s"]), ([b"r"], [b"s", b"p1"]),
-                                        ([b"r", b"_q"], [b"s", b"a"]), ([], [b"s"]), ([b"r"], [b"s"])])
+        sides: list[tuple[list[bytes], list[bytes]]] = [
+            ([b"r"], [b"s"]), ([b"r", b"q"], [b"s"]), ([b"r"], [b"s", b"p1"]),
+            ([b"r", b"_q"], [b"s", b"a"]), ([], [b"s"]), ([b"r"], [b"s"])]
+        ins, outs = self.random.choice(sides)
         return list(ins), list(outs)
 
     def requirement(self, ins: list[bytes], outs: list[bytes]) -> Formula:

@@ -53,6 +53,12 @@ static void *make(void *given) {
         outcome = omega_equal(one.bytes, one.length, other.bytes, other.length, 1, &yes, &out);
     } else if (!strcmp(it->call, "realize")) {
         outcome = omega_realize(one.bytes, one.length, &yes, &out);
+    } else if (!strcmp(it->call, "realize_circuit")) {
+        outcome = omega_realize_circuit(one.bytes, one.length, 1, &yes, &out);
+    } else if (!strcmp(it->call, "circuit")) {
+        outcome = omega_circuit(one.bytes, one.length, 1, &out);
+    } else if (!strcmp(it->call, "circuit_automaton")) {
+        outcome = omega_circuit_automaton(one.bytes, one.length, &out);
     } else {
         exit(2);
     }

@@ -21,13 +21,18 @@ NAMES = " ".join(f'"p{p}"' for p in range(MANY))
 AUTOMATON = (f"HOA: v1 States: 2 Start: 0 AP: {MANY} {NAMES} %sAcceptance: %s "
              "--BODY-- State: 0 [%s] 1 {0} State: 1 [t] 0 --END--")
 CONTROL = "controllable-AP: 0 "
-CALLS = ("empty", "complement", "meet", "contained", "equal", "realize")
+CALLS = ("empty", "complement", "meet", "contained", "equal", "realize", "realize_circuit")
+# Calls for a circuit, and the words that judge it for a formula.
+CIRCUIT_CALLS = (["circuit"], ["circuit_automaton"], ["run", "check", "--format", "aiger"],
+                 ["run", "verify", "--explain", "-f", "G(i0 -> o0)", "--outs", "o0"])
+# How many gates use one another in a row.
+GATES = 100_000
 RUNS = ("canon --format hoa", "check --format hoa", "show --format hoa", "draw --format hoa",
         "draw --format hoa --lasso", "empty --search --word", "empty --word", "complement", "meet --with f",
         "meet --trim --with f", "join --with f", "trim", "contained --in f", "contained --explain --in f",
         "equal --to f", "equal --explain --to f", "realize", "realize --controller", "realize --game", "realize --lift",
-        "game", "verify --automaton f", "verify --specification f", "verify --specification f --explain",
-        "accepts --word cycle{1}", "accepts --explain --word cycle{p0}",
+        "realize --aiger", "game", "verify --automaton f", "verify --specification f",
+        "verify --specification f --explain", "accepts --word cycle{1}", "accepts --explain --word cycle{p0}",
         "accepts --some --explain --word cycle{p0}")
 
 
@@ -65,6 +70,12 @@ def texts(depth: int) -> Iterator[tuple[str, str]]:
         yield name, AUTOMATON % (buchi, "1 Inf(0)", label)
     deep = nested(depth // 4, "Inf(0) & (Fin(0) | (", "))", "Inf(0)")
     yield "a deep acceptance", AUTOMATON % (CONTROL, f"1 {deep}", "0")
+
+
+def chain() -> str:
+    """A circuit with a chain of gates, each of which stands before the one that it uses."""
+    gates = (f"{2 * at + 4} {2 * at + 2} 2\n" for at in reversed(range(GATES)))
+    return f"aag {GATES + 1} 1 0 1 {GATES}\n2\n{2 * GATES + 2}\n{''.join(gates)}"
 
 
 def ended(program: str, kibibytes: int, words: list[str], text: str) -> int | None:
@@ -109,6 +120,9 @@ def stack_checks(program: str) -> Cases:
                             (["satisfies", "--explain", "-f", formula], automaton)):
             label = f"{KIBIBYTES} KiB of stack for {words[0]} on {name}, {DEEPEST} deep"
             yield label, partial(stack_fault, program, KIBIBYTES, ["run", *words], text)
+    for words in CIRCUIT_CALLS:
+        label = f"{KIBIBYTES} KiB of stack for {' '.join(words)} on a chain of {GATES} gates"
+        yield label, partial(stack_fault, program, KIBIBYTES, words, chain())
     for command in ("solve --search", "solve --budget 100000", "canon --format pg", "check --format pg",
                     "show --format pg", "draw --format pg", "solve --search --by zielonka -v",
                     "solve --search --by tangles -v"):

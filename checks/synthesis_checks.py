@@ -297,7 +297,8 @@ def refusal_checks() -> Cases:
         unlike_fault, ["verify", "--specification"], SOUND, ITS_CONTROLLER, YES)
     yield "verify --counter-strategy without a fault", partial(
         unlike_fault, ["verify", "--counter-strategy", "--specification"], SOUND, ITS_CONTROLLER, NO)
-    for faults, words in ((VERIFY_FAULTS, []), (COUNTER_FAULTS, ["--counter-strategy"])):
+    judges: list[tuple[list[Whose], list[str]]] = [(VERIFY_FAULTS, []), (COUNTER_FAULTS, ["--counter-strategy"])]
+    for faults, words in judges:
         for first_of, other_of in itertools.combinations_with_replacement(faults, 2):
             yield from both_refused(words, first_of, other_of)
 

@@ -167,7 +167,7 @@ def script() -> ModuleType:
 
 def table_check() -> Check:
     """The script knows the options that take a value, and which of them name files."""
-    named = {it for name in subcommands() for it in re.findall(r"--([a-z]+) <([A-Z]+)>", help_of(name))}
+    named = {it for name in subcommands() for it in re.findall(r"--([a-z-]+) <([A-Z]+)>", help_of(name))}
     files = {option for option, value in named if value == "FILE"}
     others, known = {option for option, _ in named} - files, script()
     fault = f"the script has {sorted(known.FILES)} and {sorted(known.OTHERS)}, the help {sorted(named)}"

@@ -1,5 +1,6 @@
 """What the package for Python makes of what it is given, before and after the library: numbers that are no integers,
-arrays of two dimensions or at odd addresses, budgets, choices from anywhere; refusals that cross a process; threads.
+arrays of two dimensions or at odd addresses, budgets, choices from anywhere; strings in place of lists; refusals that
+cross a process; threads.
 """
 import pickle
 import random
@@ -62,6 +63,22 @@ def entry_checks(omega: Any) -> Cases:
     yield "a budget with a fraction", raises(TypeError, omega.solve, PRIORITIES, OWNERS, FLAT, budget=2.5)
     true = omega.solve(PRIORITIES, [False, True, True], FLAT)
     yield "owners as truth values", differs(answer_of(true), RIGHT)
+
+
+def list_checks(omega: Any) -> Cases:
+    """A string is no list of its letters, neither of names nor of words."""
+    formula, pair = omega.Formula("G(a -> b)"), omega.Formula("G(a -> b)").deterministic()
+    yield "outputs as a string", raises(TypeError, formula.realize, outs="ab")
+    yield "inputs as a string", raises(TypeError, formula.realize, ins="ab")
+    yield "an empty string", raises(TypeError, formula.realize, outs="")
+    yield "bytes", raises(TypeError, formula.realize, outs=b"ab")
+    yield "a string for a controller", raises(TypeError, formula.realized_by, pair, outs="b")
+    yield "propositions as a string", raises(TypeError, pair.controlling, "ab")
+    yield "what is controlled as a string", raises(TypeError, pair.realize, "ab")
+    yield "names of nodes as a string", raises(TypeError, omega.Game.from_arrays, [0, 1], [0, 1], [[1], [0]], names="ab")
+    yield "words as a string", raises(TypeError, omega.run, "version")
+    yield "a tuple is a list of names", differs(formula.realize(outs=("b",)).realizable, True)
+    yield "and so is a set", differs(formula.realize(outs={"b"}).realizable, True)
 
 
 def place_checks(omega: Any) -> Cases:
@@ -153,6 +170,7 @@ def runs_fault(omega: Any, text: bytes, wanted: int) -> Fault:
 
 def wrapper_checks(omega: Any) -> Cases:
     yield from entry_checks(omega)
+    yield from list_checks(omega)
     yield from place_checks(omega)
     yield from crossing_checks(omega)
     line = b"".join(b"%d 0 0 %d;\n" % (v, v) for v in range(20_000))
