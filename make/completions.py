@@ -4,7 +4,7 @@ import re
 import subprocess
 from dataclasses import dataclass, field
 
-VALUES = {"FORMAT": ["pg", "hoa"], "P": ["0", "1"], "SEARCHER": ["zielonka", "tangles"]}
+VALUES = {"FORMAT": ["pg", "hoa", "aiger"], "P": ["0", "1"], "SEARCHER": ["zielonka", "tangles"]}
 # The options that may be given several times, by their subcommands.
 REPEATED = {("satisfies", "formula")}
 
@@ -61,29 +61,47 @@ def names_of(commands: list[Subcommand]) -> str:
 def bash_completions(commands: list[Subcommand]) -> str:
     rows = "\n".join(f"        {it.name}) options='{' '.join('--' + one.name for one in it.options)}' ;;"
                      for it in commands if it.options)
-    values = "\n".join(f"        --{name}) COMPREPLY=($(compgen -W '{' '.join(given)}' -- \"$word\")); return ;;"
+    values = "\n".join(f"        --{name}) _omega_words '{' '.join(given)}' \"$word\"; return ;;"
                        for name, given in value_rows(commands))
     files = "|".join(f"--{name}" for name in file_options(commands))
     others = "|".join(other_options(commands))
     return f"""\
 # Completions of omega for bash.
+_omega_words() {{
+    mapfile -t COMPREPLY < <(compgen -W "$1" -- "$2")
+}}
+# Bash itself offers files, so that it quotes blanks in their names, and goes on behind folders.
+_omega_files() {{
+    compopt -o bashdefault -o default 2>/dev/null
+}}
 _omega() {{
-    local word=${{COMP_WORDS[COMP_CWORD]}} before=${{COMP_WORDS[COMP_CWORD-1]}} options=
+    local word=${{COMP_WORDS[COMP_CWORD]}} before=${{COMP_WORDS[COMP_CWORD-1]}} options= at=1
+    COMPREPLY=()
+    # The name of the subcommand may stand behind the flag.
+    case ${{COMP_WORDS[1]}} in
+        -v|--verbose) [ "$COMP_CWORD" -gt 1 ] && at=2 ;;
+    esac
+    # Of --game=g bash makes three words.
+    if [ "$word" = = ]; then
+        word=
+    elif [ "$before" = = ]; then
+        before=${{COMP_WORDS[COMP_CWORD-2]}}
+    fi
     case $before in
 {values}
-        {files}) COMPREPLY=($(compgen -f -- "$word")); return ;;
+        {files}) _omega_files; return ;;
         {others}) return ;;
     esac
-    if [ "$COMP_CWORD" -eq 1 ] || [ "${{COMP_WORDS[1]}}" = help ]; then
-        COMPREPLY=($(compgen -W '{names_of(commands)} --help --version' -- "$word"))
+    if [ "$COMP_CWORD" -eq "$at" ] || [ "${{COMP_WORDS[1]}}" = help ]; then
+        _omega_words '{names_of(commands)} --help --version --verbose' "$word"
         return
     fi
-    case ${{COMP_WORDS[1]}} in
+    case ${{COMP_WORDS[at]}} in
 {rows}
     esac
     case $word in
-        -*) COMPREPLY=($(compgen -W "$options --help" -- "$word")) ;;
-        *) COMPREPLY=($(compgen -f -- "$word")) ;;
+        -*) _omega_words "$options --help" "$word" ;;
+        *) _omega_files ;;
     esac
 }}
 complete -F _omega omega
@@ -125,7 +143,8 @@ def zsh_completions(commands: list[Subcommand]) -> str:
             values = ":file:_files" if one.value == "FILE" else values or (f":{one.value}:" if one.value else "")
             said = f"[{plain(one.help)}]{values}'"
             front = "*" if (it.name, one.name) in REPEATED else f"(-{one.letter} --{one.name})"
-            words.append(f"'{front}'{{-{one.letter},--{one.name}}}'{said}" if one.letter else f"'--{one.name}{said}")
+            short, long = (f"-{one.letter}+", f"--{one.name}=") if one.value else (f"-{one.letter}", f"--{one.name}")
+            words.append(f"'{front}'{{{short},{long}}}'{said}" if one.letter else f"'{long}{said}")
         rows.append(f"        {it.name}) _arguments {' '.join(words)} '--help[Print help]' '*:file:_files' ;;")
     table = "\n".join(rows)
     return f"""\
@@ -135,6 +154,11 @@ _omega() {{
     local -a commands=(
 {names}
     )
+    # The name of the subcommand may stand behind the flag.
+    if (( CURRENT > 2 )) && [[ ${{words[2]}} == (-v|--verbose) ]]; then
+        shift words
+        (( CURRENT-- ))
+    fi
     if (( CURRENT == 2 )); then
         _describe command commands
         return
@@ -151,7 +175,8 @@ _omega "$@"
 
 
 def fish_completions(commands: list[Subcommand]) -> str:
-    lines = ["# Completions of omega for fish.", "complete -c omega -n __fish_use_subcommand -f"]
+    lines = ["# Completions of omega for fish.", "complete -c omega -n __fish_use_subcommand -f",
+             "complete -c omega -n __fish_use_subcommand -l verbose -s v -d 'Say more of a refusal on standard error'"]
     lines += [f"complete -c omega -n __fish_use_subcommand -a {it.name} -d '{plain(it.help)}'" for it in commands]
     for it in commands:
         for one in it.options:

@@ -27,8 +27,9 @@ Requires-Python: >=3.10
 Classifier: Typing :: Typed
 Description-Content-Type: text/markdown
 
-`import omega` solves, judges and bounds parity games, combines and decides omega-automata, and has the program `omega`
-as a function. The library behind it, which is inside this package, is proved; the package itself is tested.
+`import omega` solves, judges and bounds parity games, combines and decides omega-automata, makes and judges circuits,
+and has the program `omega` as a function. The library behind it, which is inside this package, is proved; the package
+itself is tested.
 """
 FORMAT = f"""\
 Wheel-Version: 1.0
