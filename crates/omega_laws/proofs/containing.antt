@@ -1,4 +1,5 @@
 -- That texts which are met and complemented say whether the words of one are words of another.
+pub mod Described
 pub mod Inclusion
 pub mod Joined
 pub mod Memberships

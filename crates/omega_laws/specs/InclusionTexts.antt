@@ -2,7 +2,6 @@
 use Rattle.std.specs.Prelude.{◌≡◌, ◌⊎◌, ◌++◌, ℕ, Bool, true, List, codes}
 use Rattle.omega_text.specs.Omniscience.{LimitedPrincipleOfOmniscience}
 use Rattle.omega_hoa_automaton.specs.Automaton.{Description}
-use Rattle.omega_hoa.specs.Alone.{IsAutomatonText}
 use Rattle.omega_io.specs.declared.exit.Exit.{Exit}
 use Rattle.omega_io.specs.declared.exit.Exit.TheVariants.{Done, No}
 use Rattle.omega_lang_lasso_word.specs.Admitted.{Admits}
@@ -15,10 +14,13 @@ use Rattle.omega_answers_inclusion.specs.Accepts.{IsAcceptsAnswer}
 use Rattle.omega_answers_inclusion.specs.AcceptsSome.{IsAcceptsSomeAnswer}
 use Rattle.omega_answers_inclusion.specs.Contained.{IsContainedAnswer}
 use Rattle.omega_answers_inclusion.specs.Equal.{IsEqualAnswer}
+use Rattle.omega_laws.specs.Describes.{Describes, DescribesSome}
 use Rattle.omega_laws.specs.TextWords.{AcceptsWordsOf, TextAccepts}
 
--- some word fits the text of words, and each that fits it is accepted by one text and not by another
+-- some word fits the text of words, and each that fits it is accepted by one text and not by another, which describes
+-- an automaton
 pub record ShowsOutside (one other words : List ℕ) : Type 0 where
+  pub described : DescribesSome other
   pub fitting : NamedWord
   pub fits : Fits words fitting
   pub outside : (word : NamedWord) → Fits words word → TextAccepts one word × (¬ TextAccepts other word)
@@ -47,18 +49,22 @@ SaysEqual file input explain Done output = AcceptsWordsOf file input × AcceptsW
 SaysEqual file input explain No output = TellsOutside input file explain output
     ⊎ (AcceptsWordsOf file input × TellsOutside file input explain output)
 
--- a text accepts the words that fit the text of a word: without a premise each ultimately periodic one, and all if each
--- letter fixes each proposition of its automaton; by the limited principle of omniscience all
+-- a text describes an automaton and accepts the words that fit the text of a word: without a premise each ultimately
+-- periodic one, and all if each letter fixes each proposition of its automaton; by the limited principle of omniscience
+-- all
 pub record AcceptsFitting (word text : List ℕ) : Type 0 where
+  pub described : DescribesSome text
+  pub read : (symbolic : SymbolicWord) × IsWordText word symbolic
   pub periodic : (named : NamedWord) → IsPeriodic named → Fits word named → TextAccepts text named
   pub one_word : (symbolic : SymbolicWord) (a : Description) → IsWordText word symbolic
-      → IsAutomatonText text a → IsOneWordFor symbolic a
+      → Describes text a → IsOneWordFor symbolic a
       → (named : NamedWord) → Fits word named → TextAccepts text named
   pub all : LimitedPrincipleOfOmniscience → (named : NamedWord) → Fits word named → TextAccepts text named
 
--- words show that a text does not accept what the text of a word admits, and the output ends in them if an explanation
--- is asked for
+-- words show that a text, which describes an automaton, does not accept what the text of a word admits, and the output
+-- ends in them if an explanation is asked for
 pub record TellsRejected (word text : List ℕ) (explain : Bool) (output : List ℕ) : Type 0 where
+  pub described : DescribesSome text
   pub symbolic : SymbolicWord
   pub read : IsWordText word symbolic
   pub words : List ℕ
@@ -83,10 +89,16 @@ pub record TellsAccepted (word text : List ℕ) (explain : Bool) (output : List 
   pub accepted : (named : NamedWord) → Fits words named → Admits symbolic named × TextAccepts text named
   pub told : explain ≡ true → EndsInWord output words
 
+-- a text describes an automaton and accepts none of the words that fit the text of a word
+pub record AcceptsNoneFitting (word text : List ℕ) : Type 0 where
+  pub described : DescribesSome text
+  pub read : (symbolic : SymbolicWord) × IsWordText word symbolic
+  pub none : (named : NamedWord) → Fits word named → ¬ TextAccepts text named
+
 -- what an answer of `accepts --some` says: words that the text accepts, or that it accepts none that fits
 abbrev pub SaysSomeAccepted : (word text : List ℕ) (explain : Bool) → Exit → List ℕ → Type 0
 SaysSomeAccepted word text explain Done output = TellsAccepted word text explain output
-SaysSomeAccepted word text explain No output = (named : NamedWord) → Fits word named → ¬ TextAccepts text named
+SaysSomeAccepted word text explain No output = AcceptsNoneFitting word text
 
 -- each answer says so
 abbrev pub ContainedTextsAreContained : Type 0

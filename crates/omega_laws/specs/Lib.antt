@@ -6,6 +6,7 @@
 -- The laws of the texts of controllers, of what is answered to them, and of answers by lifting.
 pub mod ComplementTexts
 pub mod Containment
+pub mod Describes
 pub mod InclusionTexts
 pub mod ProductTexts
 pub mod TextWords

@@ -2,11 +2,12 @@
 
 ghost use Rattle.omega_laws.specs.ComplementTexts.{ComplementTextsAcceptTheRest, ComplementsAreReadBack};
 
+use crate::describing::described_automata_are_alike;
 use omega_acc::{
     acc_texts_are_formulas, label_texts_are_labels, written_formulas_are_shallowest,
     written_formulas_mean, written_labels_are_shallowest, written_labels_mean,
 };
-use omega_hoa::{automata_are_one, automata_fill_segments};
+use omega_hoa::automata_fill_segments;
 use omega_hoa_automaton::{meanings_are_automata, meanings_have_no_fault};
 use omega_hoa_round_trips::read_automata_are_writable;
 use omega_lang_word_laws::complements_part_by_name;
@@ -44,7 +45,7 @@ pub fn complements_are_read_back()
 pub fn complement_texts_accept_the_rest()
     ensures { ComplementTextsAcceptTheRest }
 {
-    automata_are_one();
+    described_automata_are_alike();
     meanings_are_automata();
     complements_are_read_back();
     complements_part_by_name();

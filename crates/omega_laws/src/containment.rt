@@ -5,8 +5,8 @@ ghost use Rattle.omega_laws.specs.Containment.{EmptyMeansContained};
 ghost use Rattle.omega_laws.specs.Containment.{LassosMeanNotContained, MetTextsAcceptBoth};
 
 use crate::complement_texts::complements_are_read_back;
+use crate::describing::described_automata_are_alike;
 use crate::product_texts::products_are_read_back;
-use omega_hoa::automata_are_one;
 use omega_hoa_automaton::meanings_are_automata;
 use omega_lang_runs::{empty_accepts_no_word, lassos_have_accepted_words};
 use omega_lang_word_laws::{complements_are_apart, complements_cover, products_meet};
@@ -16,7 +16,7 @@ use omega_lang_word_laws::{complements_are_apart, complements_cover, products_me
 pub fn met_texts_accept_both()
     ensures { MetTextsAcceptBoth }
 {
-    automata_are_one();
+    described_automata_are_alike();
     meanings_are_automata();
     products_are_read_back();
     products_meet();
@@ -27,7 +27,7 @@ pub fn met_texts_accept_both()
 pub fn empty_means_contained()
     ensures { EmptyMeansContained }
 {
-    automata_are_one();
+    described_automata_are_alike();
     meanings_are_automata();
     complements_are_read_back();
     complements_cover();
@@ -39,7 +39,7 @@ pub fn empty_means_contained()
 pub fn lassos_mean_not_contained()
     ensures { LassosMeanNotContained }
 {
-    automata_are_one();
+    described_automata_are_alike();
     meanings_are_automata();
     complements_are_read_back();
     complements_are_apart();

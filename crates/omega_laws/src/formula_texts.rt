@@ -3,20 +3,20 @@
 
 ghost use Rattle.omega_laws.specs.FormulaTexts.{AdmittedWordsSatisfy, SatisfyingTextsSatisfy};
 
+use crate::describing::described_automata_are_alike;
 use omega_answers_formula::laws::formula_names_are_strings;
-use omega_hoa::automata_are_one;
 use omega_hoa_round_trips::read_automata_are_writable;
 use omega_lang_word_text::laws::{names_are_strings, words_of_texts_are_one};
 use omega_ltl_text::laws::formulas_of_texts_are_one;
 
-/// Shows what `satisfies` answers of the texts of formulas and of that of an automaton: for each formula `yes` only if
-/// each word that the automaton accepts satisfies it, and otherwise words that are accepted and do not satisfy it. With
-/// an explanation the answer ends in these words. `yes` has the premise of the limited principle of omniscience, and
-/// `no` has none.
+/// Shows what `satisfies` answers of the texts of formulas and of one that describes an automaton: for each formula `yes`
+/// only if each word that the automaton accepts satisfies it, and otherwise words that are accepted and do not satisfy
+/// it. With an explanation the answer ends in these words. `yes` has the premise of the limited principle of
+/// omniscience, and `no` has none. Wherever there is an answer, each text says or describes something.
 pub fn satisfying_texts_satisfy()
     ensures { SatisfyingTextsSatisfy }
 {
-    automata_are_one();
+    described_automata_are_alike();
     read_automata_are_writable();
     formulas_of_texts_are_one();
     formula_names_are_strings();

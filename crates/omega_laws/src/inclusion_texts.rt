@@ -5,7 +5,7 @@ ghost use Rattle.omega_laws.specs.InclusionTexts.{AcceptedTextsAreAccepted};
 ghost use Rattle.omega_laws.specs.InclusionTexts.{ContainedTextsAreContained, EqualTextsAreEqual};
 ghost use Rattle.omega_laws.specs.InclusionTexts.{SomeTextsAreAccepted};
 
-use omega_hoa::automata_are_one;
+use crate::describing::described_automata_are_alike;
 use omega_hoa_round_trips::read_automata_are_writable;
 use omega_lang_word_text::laws::{
     fitting_texts_are_read, names_are_strings, words_of_texts_are_one,
@@ -18,7 +18,7 @@ use omega_lang_word_text::laws::{
 pub fn contained_texts_are_contained()
     ensures { ContainedTextsAreContained }
 {
-    automata_are_one();
+    described_automata_are_alike();
     read_automata_are_writable();
 }
 
@@ -27,7 +27,7 @@ pub fn contained_texts_are_contained()
 pub fn equal_texts_are_equal()
     ensures { EqualTextsAreEqual }
 {
-    automata_are_one();
+    described_automata_are_alike();
     read_automata_are_writable();
 }
 
@@ -37,7 +37,7 @@ pub fn equal_texts_are_equal()
 pub fn accepted_texts_are_accepted()
     ensures { AcceptedTextsAreAccepted }
 {
-    automata_are_one();
+    described_automata_are_alike();
     read_automata_are_writable();
     fitting_texts_are_read();
     names_are_strings();
@@ -50,7 +50,7 @@ pub fn accepted_texts_are_accepted()
 pub fn some_texts_are_accepted()
     ensures { SomeTextsAreAccepted }
 {
-    automata_are_one();
+    described_automata_are_alike();
     read_automata_are_writable();
     fitting_texts_are_read();
     names_are_strings();

@@ -1,6 +1,9 @@
 //! Laws of the texts of products and complements: that their canonical texts are read back, and what `meet`,
 //! `complement` and `empty` say of two texts, one after the other. And what `meet --trim` says. No code that runs.
 //!
+//! Laws of the automata that texts describe, whatever faults a text may have: of each text of an automaton there is one,
+//! and all that one text describes accept the same words. No code that runs.
+//!
 //! Laws of automata without useless states: the words that they accept. No code that runs.
 //!
 //! Laws of unions: the words that they accept. No code that runs.
@@ -17,6 +20,7 @@
 mod complement_texts;
 mod containment;
 mod controller_texts;
+mod describing;
 mod formula_texts;
 mod inclusion_texts;
 mod lifted_answers;
@@ -32,6 +36,7 @@ mod written_words;
 pub use complement_texts::{complement_texts_accept_the_rest, complements_are_read_back};
 pub use containment::{empty_means_contained, lassos_mean_not_contained, met_texts_accept_both};
 pub use controller_texts::controllers_are_read_back;
+pub use describing::{automata_are_described, described_automata_are_alike};
 pub use formula_texts::{admitted_words_satisfy, satisfying_texts_satisfy};
 pub use inclusion_texts::{
     accepted_texts_are_accepted, contained_texts_are_contained, equal_texts_are_equal,

@@ -2,9 +2,9 @@
 
 ghost use Rattle.omega_laws.specs.Trimming.{TrimmedMeetingsAcceptBoth};
 
+use crate::describing::described_automata_are_alike;
 use crate::trims_accept_the_same;
 use crate::written_texts::written_automata_are_read_back;
-use omega_hoa::automata_are_one;
 use omega_hoa_automaton::meanings_are_automata;
 use omega_hoa_round_trips::read_automata_are_writable;
 use omega_lang_word_laws::products_meet_by_name;
@@ -14,7 +14,7 @@ use omega_lang_word_laws::products_meet_by_name;
 pub fn trimmed_meetings_accept_both()
     ensures { TrimmedMeetingsAcceptBoth }
 {
-    automata_are_one();
+    described_automata_are_alike();
     meanings_are_automata();
     read_automata_are_writable();
     written_automata_are_read_back();

@@ -2,8 +2,8 @@
 
 ghost use Rattle.omega_laws.specs.Trims.{TrimmedTextsAcceptTheSame, TrimsAcceptTheSame, TrimsAreOne};
 
+use crate::describing::described_automata_are_alike;
 use crate::written_texts::written_automata_are_read_back;
-use omega_hoa::automata_are_one;
 use omega_hoa_automaton::meanings_are_automata;
 use omega_hoa_round_trips::read_automata_are_writable;
 use omega_lang_runs::accepting_runs_have_lassos;
@@ -21,7 +21,7 @@ pub fn trims_accept_the_same()
 pub fn trimmed_texts_accept_the_same()
     ensures { TrimmedTextsAcceptTheSame }
 {
-    automata_are_one();
+    described_automata_are_alike();
     meanings_are_automata();
     read_automata_are_writable();
     written_automata_are_read_back();

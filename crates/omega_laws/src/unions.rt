@@ -3,8 +3,8 @@
 ghost use Rattle.omega_laws.specs.Unions.{JoinedTextsAcceptEither, UnionsAcceptEither};
 ghost use Rattle.omega_laws.specs.Unions.{UnionsAcceptEitherByName, UnionsAreOne};
 
+use crate::describing::described_automata_are_alike;
 use crate::written_texts::written_automata_are_read_back;
-use omega_hoa::automata_are_one;
 use omega_hoa_automaton::meanings_are_automata;
 use omega_hoa_round_trips::read_automata_are_writable;
 
@@ -25,7 +25,7 @@ pub fn unions_accept_either_by_name()
 pub fn joined_texts_accept_either()
     ensures { JoinedTextsAcceptEither }
 {
-    automata_are_one();
+    described_automata_are_alike();
     meanings_are_automata();
     read_automata_are_writable();
     written_automata_are_read_back();

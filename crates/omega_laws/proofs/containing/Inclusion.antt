@@ -2,7 +2,6 @@
 use Rattle.std.proofs.Common.{◌≡◌, ◌++◌, ℕ, inl, inr, Bool, true, List, [], codes, sym, ap, subst, ◌∙◌, append_assoc}
 use Rattle.omega_hoa_automaton.specs.Automaton.{Description}
 use Rattle.omega_hoa.specs.Alone.{IsAutomatonText}
-use Rattle.omega_hoa.specs.Laws.{AutomataAreOne}
 use Rattle.omega_hoa_round_trips.specs.Laws.{ReadAutomataAreWritable}
 use Rattle.omega_io.specs.declared.exit.Exit.{Exit}
 use Rattle.omega_lang_inclusion.specs.Containing.{IsContained, IsContainment, IsCounterexample}
@@ -19,8 +18,10 @@ use Rattle.omega_io.specs.Answer.{IsReply, explained}
 use Rattle.omega_answers_inclusion.specs.Contained.{containment_answer}
 use Rattle.omega_answers_inclusion.specs.Equal.{equality_answer}
 use Rattle.omega_answers_inclusion.specs.Example.{example_lines}
+use Rattle.omega_laws.specs.Describes.{DescribedAreAlike}
 use Rattle.omega_laws.specs.InclusionTexts.{ContainedTextsAreContained, EndsInWord, EqualTextsAreEqual, SaysContained, SaysEqual, TellsOutside}
 use Rattle.omega_laws.specs.TextWords.{AcceptsWordsOf}
+use Rattle.omega_laws.proofs.containing.Described.{described}
 use Rattle.omega_laws.proofs.containing.Parted.{seen_periodic}
 use Rattle.omega_laws.proofs.containing.Texts.{of_automaton, of_text}
 
@@ -35,11 +36,12 @@ example_told explain output who example is asked =
           ∙ ap (λ (rest : List ℕ). codes "no\n" ++ rest) (sym (append_assoc who lasso line)) ∙ sym (append_assoc (codes "no\n") (who ++ lasso) line),
     )
 
-module _ (law : AutomataAreOne) (writable : ReadAutomataAreWritable) where
+module _ (law : DescribedAreAlike) (writable : ReadAutomataAreWritable) where
   -- two texts and their automata
   module _ (text other : List ℕ) (one a : Description) (read : IsAutomatonText text one) (other_read : IsAutomatonText other a) where
     words_accepted : IsContained one a → AcceptsWordsOf other text
     words_accepted is = record {
+      described = ((a, described other a other_read), (one, described text one read));
       periodic = λ word periodic accepts. of_automaton other a word other_read
           (is.periodic word (seen_periodic a word periodic) (of_text law text one word read accepts));
       all = λ omniscience word accepts. of_automaton other a word other_read (is.all omniscience word (of_text law text one word read accepts));
@@ -53,6 +55,7 @@ module _ (law : AutomataAreOne) (writable : ReadAutomataAreWritable) where
         record {
           words = lasso_word_text example.word;
           shows = record {
+            described = (a, described other a other_read);
             fitting = is.word;
             fits = is.fits (strings, other_strings);
             outside = λ word fits. (let outside = is.all_wanted (strings, other_strings) word fits in (

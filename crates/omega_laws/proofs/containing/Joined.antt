@@ -1,22 +1,22 @@
 -- What `join` writes of two texts.
-use Rattle.std.proofs.Common.{◌≡◌, ◌↔◌, ◌⊎◌, ◌≤◌, ℕ, inl, inr, List, length, sym, subst}
+use Rattle.std.proofs.Common.{◌↔◌, ◌⊎◌, ◌≤◌, ℕ, inl, inr, List, length, sym, subst}
 use Rattle.omega_text.specs.Limits.{most_text}
 use Rattle.omega_hoa_automaton.specs.Automaton.{IsAutomaton}
 use Rattle.omega_hoa_automaton.specs.Branching.{has_universal_branching}
 use Rattle.omega_hoa_automaton.specs.Laws.{MeaningsAreAutomata}
 use Rattle.omega_hoa.specs.Alone.{IsAutomatonText}
-use Rattle.omega_hoa.specs.Laws.{AutomataAreOne}
 use Rattle.omega_hoa_round_trips.specs.Laws.{ReadAutomataAreWritable}
 use Rattle.omega_lang_trim.specs.Written.{written}
 use Rattle.omega_text.specs.NamedWords.{NamedWord}
 use Rattle.omega_lang_word_laws.specs.NamedWords.{AcceptsNamed}
 use Rattle.omega_lang_word_laws.proofs.parting.Plain.{or_parts}
+use Rattle.omega_laws.specs.Describes.{DescribedAreAlike}
 use Rattle.omega_laws.specs.Unions.{JoinedTextsAcceptEither, UnionsAcceptEitherByName}
 use Rattle.omega_laws.specs.WrittenTexts.{FitsTexts, WrittenAutomataAreReadBack}
 use Rattle.omega_laws.proofs.containing.Texts.{is_automaton, of_automaton, of_text}
 use Rattle.omega_laws.proofs.reading_back.Fitting.{union_fits, writable_fits}
 
-pub joined_accept_either : AutomataAreOne → MeaningsAreAutomata → ReadAutomataAreWritable → WrittenAutomataAreReadBack → UnionsAcceptEitherByName → JoinedTextsAcceptEither
+pub joined_accept_either : DescribedAreAlike → MeaningsAreAutomata → ReadAutomataAreWritable → WrittenAutomataAreReadBack → UnionsAcceptEitherByName → JoinedTextsAcceptEither
 joined_accept_either one automata writable back either file input output answer short =
     let made = answer.holds in
     let union = made.union in

@@ -1,7 +1,6 @@
 -- What `accepts` answers of the text of a word and of that of an automaton.
-use Rattle.std.proofs.Common.{◌≡◌, ◌++◌, ℕ, inl, Bool, true, List, codes, append_assoc, sym, ap, subst, ◌∙◌}
+use Rattle.std.proofs.Common.{◌≡◌, ◌++◌, ℕ, inl, Bool, true, List, Contains, codes, append_assoc, sym, ap, subst, ◌∙◌}
 use Rattle.omega_hoa_automaton.specs.Automaton.{Description}
-use Rattle.omega_hoa.specs.Laws.{AutomataAreOne}
 use Rattle.omega_hoa_round_trips.specs.Laws.{ReadAutomataAreWritable}
 use Rattle.omega_io.specs.declared.exit.Exit.{Exit}
 use Rattle.omega_lang_lasso_word.specs.Admitted.{Admits}
@@ -25,7 +24,9 @@ use Rattle.omega_io.specs.Answer.{IsReply, explained}
 use Rattle.omega_answers_inclusion.specs.Accepts.{membership_answer}
 use Rattle.omega_answers_inclusion.specs.AcceptsSome.{some_exit, some_text}
 use Rattle.omega_answers_inclusion.specs.Example.{example_lines, word_line}
+use Rattle.omega_laws.specs.Describes.{DescribedAreAlike}
 use Rattle.omega_laws.specs.InclusionTexts.{AcceptedTextsAreAccepted, EndsInWord, SaysAccepted, SaysSomeAccepted, SomeTextsAreAccepted}
+use Rattle.omega_laws.proofs.containing.Described.{described}
 use Rattle.omega_laws.proofs.containing.Parted.{seen_periodic}
 use Rattle.omega_laws.proofs.containing.Texts.{of_automaton, of_text}
 
@@ -36,7 +37,7 @@ fitting_admitted fitting words_one word symbolic read named fits =
     let same : own.0 ≡ symbolic = words_one word own.0 symbolic own.1 read in
     subst (λ (s : SymbolicWord). Admits s named) same ((own.2 named).1 fits)
 
-pub accepted_said : AutomataAreOne → ReadAutomataAreWritable → FittingTextsAreRead → NamesAreStrings → WordsOfTextsAreOne → AcceptedTextsAreAccepted
+pub accepted_said : DescribedAreAlike → ReadAutomataAreWritable → FittingTextsAreRead → NamesAreStrings → WordsOfTextsAreOne → AcceptedTextsAreAccepted
 accepted_said law writable fitting names words_one word text explain exit output answer = go answer.holds.answer answer.holds.right answer.holds.reply
   where
     symbolic : SymbolicWord
@@ -52,11 +53,14 @@ accepted_said law writable fitting names words_one word text explain exit output
     go Accepted right reply =
         subst (λ (e : Exit). SaysAccepted word text explain e output) (sym reply.0)
         (record {
+          described = (a, described text a answer.input_read);
+          read = (symbolic, answer.file_read);
           periodic = λ named periodic fits. of_automaton text a named answer.input_read (right.periodic named (seen_periodic a named periodic) (admitted named fits));
-          one_word = λ other b read other_read fixed named fits.
+          one_word = λ other b read described_too fixed named fits.
               (let same : other ≡ symbolic = words_one word other symbolic read answer.file_read in
-              let also : b ≡ a = law text b a other_read answer.input_read in
-              let own : IsOneWordFor symbolic a = subst (λ (s : SymbolicWord). IsOneWordFor s a) same (subst (λ (d : Description). IsOneWordFor other d) also fixed) in
+              let also : b.propositions ≡ a.propositions = (law text b a described_too (described text a answer.input_read)).0 in
+              let own : IsOneWordFor symbolic a = λ letter name listed has.
+              subst (λ (s : SymbolicWord). IsOneWordFor s b) same fixed letter name listed (subst (λ (names : List (List ℕ)). Contains names name) (sym also) has) in
               of_automaton text a named answer.input_read (right.one_word own named (admitted named fits)));
           all = λ omniscience named fits. of_automaton text a named answer.input_read (right.all omniscience named (admitted named fits));
         })
@@ -65,6 +69,7 @@ accepted_said law writable fitting names words_one word text explain exit output
         let own = names word symbolic answer.file_read in
         subst (λ (e : Exit). SaysAccepted word text explain e output) (sym reply.0)
         (record {
+          described = (a, described text a answer.input_read);
           symbolic = symbolic;
           read = answer.file_read;
           words = lasso_word_text words;
@@ -85,7 +90,7 @@ example_told explain output example is asked =
       is ∙ ap (λ (b : Bool). codes "yes\n" ++ explained b (example_lines example)) asked ∙ sym (append_assoc (codes "yes\n") lasso line),
     )
 
-pub some_said : AutomataAreOne → ReadAutomataAreWritable → FittingTextsAreRead → NamesAreStrings → WordsOfTextsAreOne → SomeTextsAreAccepted
+pub some_said : DescribedAreAlike → ReadAutomataAreWritable → FittingTextsAreRead → NamesAreStrings → WordsOfTextsAreOne → SomeTextsAreAccepted
 some_said law writable fitting names words_one word text explain exit output answer = go answer.holds.answer answer.holds.right answer.holds.ends answer.holds.written
   where
     symbolic : SymbolicWord
@@ -100,10 +105,14 @@ some_said law writable fitting names words_one word text explain exit output ans
     go : (said : Intersection) → IsSomeMembership symbolic a said → exit ≡ some_exit said → output ≡ some_text explain said → SaysSomeAccepted word text explain exit output
     go Empty none ends written =
         subst (λ (e : Exit). SaysSomeAccepted word text explain e output) (sym ends)
-        (λ named fits accepts. none named (record {
-          admitted = fitting_admitted fitting words_one word symbolic answer.file_read named fits;
-          accepted = of_text law text a named answer.input_read accepts;
-        }))
+        (record {
+          described = (a, described text a answer.input_read);
+          read = (symbolic, answer.file_read);
+          none = λ named fits accepts. none named (record {
+            admitted = fitting_admitted fitting words_one word symbolic answer.file_read named fits;
+            accepted = of_text law text a named answer.input_read accepts;
+          });
+        })
     go (Common example) is ends written =
         let both : HasStrings a × HasStringNames symbolic = (strings, names word symbolic answer.file_read) in
         subst (λ (e : Exit). SaysSomeAccepted word text explain e output) (sym ends)

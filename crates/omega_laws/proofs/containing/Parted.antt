@@ -1,13 +1,13 @@
 -- What `complement` writes of a text.
-use Rattle.std.proofs.Common.{◌≡◌, ◌⊎◌, ◌≤◌, ℕ, inl, inr, List, length, sym, subst}
+use Rattle.std.proofs.Common.{◌⊎◌, ◌≤◌, ℕ, inl, inr, List, length, sym, subst}
 use Rattle.omega_text.specs.Limits.{most_text}
 use Rattle.omega_hoa_automaton.specs.Automaton.{Description, IsAutomaton}
 use Rattle.omega_hoa_automaton.specs.Laws.{MeaningsAreAutomata}
 use Rattle.omega_hoa.specs.Alone.{IsAutomatonText}
-use Rattle.omega_hoa.specs.Laws.{AutomataAreOne}
 use Rattle.omega_lang_word_laws.specs.Complements.{ComplementsPartByName}
 use Rattle.omega_text.specs.NamedWords.{IsPeriodic, NamedWord}
 use Rattle.omega_lang_word_laws.specs.NamedWords.{AcceptsNamed, IsPeriodicFor}
+use Rattle.omega_laws.specs.Describes.{DescribedAreAlike}
 use Rattle.omega_laws.specs.ComplementTexts.{ComplementTextsAcceptTheRest, ComplementsAreReadBack}
 use Rattle.omega_laws.specs.TextWords.{TextAccepts}
 use Rattle.omega_laws.proofs.containing.Texts.{is_automaton, of_automaton, of_text}
@@ -21,7 +21,7 @@ seen_periodic a word periodic = record {
   repeats = λ i name past within. periodic.repeats i name past tt;
 }
 
-pub complements_parted : AutomataAreOne → MeaningsAreAutomata → ComplementsAreReadBack → ComplementsPartByName → ComplementTextsAcceptTheRest
+pub complements_parted : DescribedAreAlike → MeaningsAreAutomata → ComplementsAreReadBack → ComplementsPartByName → ComplementTextsAcceptTheRest
 complements_parted one automata back part text output answer short =
     let a = answer.automaton in
     let made = answer.holds in

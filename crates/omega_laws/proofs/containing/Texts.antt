@@ -6,7 +6,6 @@ use Rattle.omega_hoa_automaton.specs.Automaton.{Description, IsAutomaton}
 use Rattle.omega_hoa_automaton.specs.Branching.{has_universal_branching}
 use Rattle.omega_hoa_automaton.specs.Laws.{MeaningsAreAutomata}
 use Rattle.omega_hoa.specs.Alone.{IsAutomatonText}
-use Rattle.omega_hoa.specs.Laws.{AutomataAreOne}
 use Rattle.omega_lang_runs.specs.Laws.{EmptyAcceptsNoWord}
 use Rattle.omega_lang_runs.specs.Verdict.{IsVerdict}
 use Rattle.omega_lang_runs.specs.Words.{IsAccepted, LassosHaveAcceptedWords}
@@ -15,6 +14,7 @@ use Rattle.omega_lang_runs.specs.declared.verdict.Verdict.TheVariants.{Empty, La
 use Rattle.omega_answers_empty.specs.declared.lines.Lines.{Lines}
 use Rattle.omega_answers_empty.specs.empty.Answer.{emptiness_text, lasso_lines}
 use Rattle.omega_answers_automaton.specs.Meet.{IsMeetAnswer}
+use Rattle.omega_laws.specs.Describes.{DescribedAreAlike}
 use Rattle.omega_laws.specs.ComplementTexts.{ComplementsAreReadBack}
 use Rattle.omega_lang_word_laws.specs.Complements.{ComplementsAreApart, ComplementsCover}
 use Rattle.omega_laws.specs.Containment.{EmptyMeansContained, IsContainmentAnswer, IsEmptinessAnswer, LassosMeanNotContained, MetTextsAcceptBoth}
@@ -22,6 +22,7 @@ use Rattle.omega_text.specs.NamedWords.{NamedWord}
 use Rattle.omega_lang_word_laws.specs.NamedWords.{AcceptsNamed, part_of}
 use Rattle.omega_laws.specs.ProductTexts.{ProductsAreReadBack}
 use Rattle.omega_laws.specs.TextWords.{TextAccepts}
+use Rattle.omega_laws.proofs.containing.Described.{described}
 use Rattle.omega_lang_word_laws.specs.Products.{ProductsMeet}
 use Rattle.omega_lang_word_laws.proofs.naming.Named.{accepted_named}
 use Rattle.omega_lang_word_laws.proofs.naming.Parted.{products_meet_named}
@@ -31,16 +32,14 @@ use Rattle.omega_lang_word_laws.proofs.parting.Plain.{or_parts}
 pub is_automaton : MeaningsAreAutomata → (text : List ℕ) (a : Description) → IsAutomatonText text a → IsAutomaton a
 is_automaton automata text a read = automata read.value.raw a read.value.means
 
--- the automaton of a text that accepts is the text's
-pub of_text : AutomataAreOne → (text : List ℕ) (a : Description) (word : NamedWord) → IsAutomatonText text a → TextAccepts text word → AcceptsNamed a word
-of_text one text a word read accepts =
-    let P : Description → Type 0 = λ x. AcceptsNamed x word in
-    subst P (one text accepts.automaton a accepts.read read) accepts.accepted
+-- what a text accepts its automaton accepts
+pub of_text : DescribedAreAlike → (text : List ℕ) (a : Description) (word : NamedWord) → IsAutomatonText text a → TextAccepts text word → AcceptsNamed a word
+of_text alike text a word read accepts = (alike text accepts.automaton a accepts.described (described text a read)).1 word accepts.accepted
 
 pub of_automaton : (text : List ℕ) (a : Description) (word : NamedWord) → IsAutomatonText text a → AcceptsNamed a word → TextAccepts text word
-of_automaton text a word read accepted = record { automaton = a; read = read; accepted = accepted }
+of_automaton text a word read accepted = record { automaton = a; described = described text a read; accepted = accepted }
 
-pub met_accept_both : AutomataAreOne → MeaningsAreAutomata → ProductsAreReadBack → ProductsMeet → MetTextsAcceptBoth
+pub met_accept_both : DescribedAreAlike → MeaningsAreAutomata → ProductsAreReadBack → ProductsMeet → MetTextsAcceptBoth
 met_accept_both one automata back meet file input output m short =
     let plain = or_parts (has_universal_branching m.input) (has_universal_branching m.file) m.holds.given in
     let P : List ℕ → Type 0 = λ text. length text ≤ most_text in
@@ -99,7 +98,7 @@ is_empty : (a : Description) (lines : Lines) (verdict : Verdict) → IsVerdict a
 is_empty a lines Empty right written = right
 is_empty a lines (Lasso stem cycle) right written = absurd (no_lasso a lines stem cycle written)
 
-module _ (one : AutomataAreOne) (automata : MeaningsAreAutomata) (back : ComplementsAreReadBack) (both : MetTextsAcceptBoth)
+module _ (one : DescribedAreAlike) (automata : MeaningsAreAutomata) (back : ComplementsAreReadBack) (both : MetTextsAcceptBoth)
     (text other output : List ℕ) (is : IsContainmentAnswer text other output) where
   abbrev given : Description
   given = is.complemented.automaton
@@ -167,7 +166,7 @@ module _ (one : AutomataAreOne) (automata : MeaningsAreAutomata) (back : Complem
             (of_text one other given word.0 is.complemented.read accepts) (accepts_complement word.0 parts.1),
       )
 
-pub empty_contained : AutomataAreOne → MeaningsAreAutomata → ComplementsAreReadBack → MetTextsAcceptBoth → ComplementsCover → EmptyAcceptsNoWord → EmptyMeansContained
+pub empty_contained : DescribedAreAlike → MeaningsAreAutomata → ComplementsAreReadBack → MetTextsAcceptBoth → ComplementsCover → EmptyAcceptsNoWord → EmptyMeansContained
 empty_contained one automata back both cover none settled text other is word =
     let said = judged is.meeting (codes "empty\n") is.answered in
     within one automata back both text other (codes "empty\n") is none word
@@ -175,7 +174,7 @@ empty_contained one automata back both cover none settled text other is word =
     (is_automaton automata other is.complemented.automaton is.complemented.read) is.complemented.holds.given.deterministic is.complemented.holds.right)
     (is_empty said.automaton said.lines said.verdict said.right said.written)
 
-pub lassos_uncontained : AutomataAreOne → MeaningsAreAutomata → ComplementsAreReadBack → MetTextsAcceptBoth → ComplementsAreApart → LassosHaveAcceptedWords → LassosMeanNotContained
+pub lassos_uncontained : DescribedAreAlike → MeaningsAreAutomata → ComplementsAreReadBack → MetTextsAcceptBoth → ComplementsAreApart → LassosHaveAcceptedWords → LassosMeanNotContained
 lassos_uncontained one automata back both apart lassos text other output is =
     let said = judged is.meeting output is.answered in
     outside one automata back both text other output is lassos apart said.verdict said.right said.written

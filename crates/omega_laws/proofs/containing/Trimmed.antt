@@ -6,10 +6,10 @@ use Rattle.omega_hoa_automaton.specs.Automaton.{Description, IsAutomaton}
 use Rattle.omega_hoa_automaton.specs.Branching.{has_universal_branching}
 use Rattle.omega_hoa_automaton.specs.Laws.{MeaningsAreAutomata}
 use Rattle.omega_hoa.specs.Alone.{IsAutomatonText}
-use Rattle.omega_hoa.specs.Laws.{AutomataAreOne}
 use Rattle.omega_hoa_round_trips.specs.Laws.{ReadAutomataAreWritable}
 use Rattle.omega_lang_runs.specs.Words.{IsAccepted}
 use Rattle.omega_lang_trim.specs.Trimmed.{IsTrimmed}
+use Rattle.omega_laws.specs.Describes.{DescribedAreAlike}
 use Rattle.omega_laws.specs.Trims.{TrimmedTextsAcceptTheSame, TrimsAcceptTheSame}
 use Rattle.omega_laws.specs.WrittenTexts.{FitsTexts, WrittenAutomataAreReadBack}
 use Rattle.omega_text.specs.NamedWords.{NamedWord}
@@ -36,7 +36,7 @@ trim_read back a output automaton fits made short =
     let Q : List ℕ → Type 0 = λ text. IsAutomatonText text made.trim in
     subst Q (sym made.written) (back made.trim (trim_fits a made.trim automaton fits made.right) made.trim_written (subst P made.written short))
 
-pub trimmed_accept_same : AutomataAreOne → MeaningsAreAutomata → ReadAutomataAreWritable → WrittenAutomataAreReadBack → TrimsAcceptTheSame → TrimmedTextsAcceptTheSame
+pub trimmed_accept_same : DescribedAreAlike → MeaningsAreAutomata → ReadAutomataAreWritable → WrittenAutomataAreReadBack → TrimsAcceptTheSame → TrimmedTextsAcceptTheSame
 trimmed_accept_same one automata writable back same text output answer short =
     let a = answer.automaton in
     let made = answer.holds in
@@ -52,7 +52,7 @@ trimmed_accept_same one automata writable back same text output answer short =
       ),
     )
 
-pub trimmed_accept_both : AutomataAreOne → MeaningsAreAutomata → ReadAutomataAreWritable → WrittenAutomataAreReadBack → ProductsMeetByName → TrimsAcceptTheSame
+pub trimmed_accept_both : DescribedAreAlike → MeaningsAreAutomata → ReadAutomataAreWritable → WrittenAutomataAreReadBack → ProductsMeetByName → TrimsAcceptTheSame
     → TrimmedMeetingsAcceptBoth
 trimmed_accept_both one automata writable back meet same file input output answer short =
     let product = answer.holds.product in

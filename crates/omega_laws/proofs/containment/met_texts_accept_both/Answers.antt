@@ -3,4 +3,4 @@ use Rattle.omega_laws.proofs.containment.met_texts_accept_both.Goals as goal
 
 pub returns : goal.returns
 returns c =
-    met_accept_both c.automata_are_one.ensures c.meanings_are_automata.ensures c.products_are_read_back.ensures c.products_meet.ensures
+    met_accept_both c.described_automata_are_alike.ensures c.meanings_are_automata.ensures c.products_are_read_back.ensures c.products_meet.ensures

@@ -1,0 +1,5 @@
+use Rattle.omega_laws.proofs.containing.Described.{described}
+use Rattle.omega_laws.proofs.describing.automata_are_described.Goals as goal
+
+pub returns : goal.returns
+returns c = described

@@ -1,0 +1,5 @@
+use Rattle.omega_laws.proofs.containing.Described.{described_alike}
+use Rattle.omega_laws.proofs.describing.described_automata_are_alike.Goals as goal
+
+pub returns : goal.returns
+returns c = described_alike c.cuts_are_one.ensures c.raws_are_one.ensures
