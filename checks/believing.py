@@ -63,6 +63,8 @@ EXACT = {
         ("omega_laws.specs.FormulaTexts", "SatisfyingTextsSatisfy", frozenset({"AreSatisfiesAnswers"})),
     "`omega satisfies --word`, the law `admitted_words_satisfy`":
         ("omega_laws.specs.FormulaTexts", "AdmittedWordsSatisfy", frozenset({"AreSatisfiesWordAnswers"})),
+    "`omega equal -f`, the law `equal_texts_have_the_words`":
+        ("omega_laws.specs.FormulaTexts", "EqualTextsHaveTheWords", frozenset({"AreEqualAnswers"})),
     "`omega contained`, the law `contained_texts_are_contained`":
         ("omega_laws.specs.InclusionTexts", "ContainedTextsAreContained", frozenset({"IsContainedAnswer"})),
     "`omega equal`, the law `equal_texts_are_equal`":
@@ -223,8 +225,8 @@ not among it: they are those of the rows `omega realize` and `omega verify --spe
 
 The rows by a law of one command count what its answer means, and not how it is put: whoever has read what a text of an
 automaton is, and the words of the law, knows what `yes` and `no` say. Refusals are not among it. The row of the command
-counts the answer with its reasons, and all refusals. The laws of `accepts`, `satisfies`, `contained` and `equal` are
-said of the automaton that a text describes (`Describes` of `omega_laws`), so that which texts are faulty need not be
+counts the answer with its reasons, and all refusals. The laws of `accepts`, `satisfies`, `contained`, `equal` and
+`equal -f` are said of the automaton that a text describes (`Describes` of `omega_laws`), so that which texts are faulty need not be
 read. That there is such an automaton wherever there is an answer is among them. That all automata that one text
 describes accept the same words is the law `described_automata_are_alike`.
 

@@ -4,6 +4,7 @@ pub mod Inclusion
 pub mod Joined
 pub mod Memberships
 pub mod Parted
+pub mod Said
 pub mod Satisfying
 pub mod Texts
 pub mod Trimmed

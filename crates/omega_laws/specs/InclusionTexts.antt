@@ -1,5 +1,5 @@
 -- Laws of what `contained`, `equal` and `accepts` answer, in words of texts and of the words that they accept.
-use Rattle.std.specs.Prelude.{◌≡◌, ◌⊎◌, ◌++◌, ℕ, Bool, true, List, codes}
+use Rattle.std.specs.Prelude.{◌≡◌, ◌⊎◌, ℕ, Bool, List, [], codes}
 use Rattle.omega_text.specs.Omniscience.{LimitedPrincipleOfOmniscience}
 use Rattle.omega_hoa_automaton.specs.Automaton.{Description}
 use Rattle.omega_io.specs.declared.exit.Exit.{Exit}
@@ -15,39 +15,32 @@ use Rattle.omega_answers_inclusion.specs.AcceptsSome.{IsAcceptsSomeAnswer}
 use Rattle.omega_answers_inclusion.specs.Contained.{IsContainedAnswer}
 use Rattle.omega_answers_inclusion.specs.Equal.{IsEqualAnswer}
 use Rattle.omega_laws.specs.Describes.{Describes, DescribesSome}
+use Rattle.omega_laws.specs.TellsWords.{TellsWords}
 use Rattle.omega_laws.specs.TextWords.{AcceptsWordsOf, TextAccepts}
 
--- some word fits the text of words, and each that fits it is accepted by one text and not by another, which describes
--- an automaton
-pub record ShowsOutside (one other words : List ℕ) : Type 0 where
+-- one text accepts a word, and another does not
+abbrev pub AcceptsOutside : (one other : List ℕ) → NamedWord → Type 0
+AcceptsOutside one other word = TextAccepts one word × (¬ TextAccepts other word)
+
+-- `no`, with these lines and words that one text accepts and another, which describes an automaton, does not
+pub record TellsOutside (one other lines : List ℕ) (explain : Bool) (output : List ℕ) : Type 0 where
   pub described : DescribesSome other
-  pub fitting : NamedWord
-  pub fits : Fits words fitting
-  pub outside : (word : NamedWord) → Fits words word → TextAccepts one word × (¬ TextAccepts other word)
-
--- an output ends in the line of these words
-abbrev pub EndsInWord : (output words : List ℕ) → Type 0
-EndsInWord output words =
-    (lines : List ℕ) × (output ≡ lines ++ (codes "word " ++ (words ++ codes "\n")))
-
--- words show that `one` accepts what `other` does not, and the output ends in them if an explanation is asked for
-pub record TellsOutside (one other : List ℕ) (explain : Bool) (output : List ℕ) : Type 0 where
-  pub words : List ℕ
-  pub shows : ShowsOutside one other words
-  pub told : explain ≡ true → EndsInWord output words
+  pub told : TellsWords (AcceptsOutside one other) (codes "no\n") lines explain output
 
 -- what an answer of `contained` says: that the text of the file accepts the words of the other, or words that it does
 -- not accept
 abbrev pub SaysContained : (file input : List ℕ) (explain : Bool) → Exit → List ℕ → Type 0
-SaysContained file input explain Done output = AcceptsWordsOf file input
-SaysContained file input explain No output = TellsOutside input file explain output
+SaysContained file input explain Done output = (output ≡ codes "yes\n") × AcceptsWordsOf file input
+SaysContained file input explain No output = TellsOutside input file [] explain output
 
 -- what an answer of `equal` says: that each text accepts the words of the other, or words that one of them does not
 -- accept
 abbrev pub SaysEqual : (file input : List ℕ) (explain : Bool) → Exit → List ℕ → Type 0
-SaysEqual file input explain Done output = AcceptsWordsOf file input × AcceptsWordsOf input file
-SaysEqual file input explain No output = TellsOutside input file explain output
-    ⊎ (AcceptsWordsOf file input × TellsOutside file input explain output)
+SaysEqual file input explain Done output =
+    (output ≡ codes "yes\n") × AcceptsWordsOf file input × AcceptsWordsOf input file
+SaysEqual file input explain No output =
+    TellsOutside input file (codes "accepted by input\n") explain output
+    ⊎ (AcceptsWordsOf file input × TellsOutside file input (codes "accepted by file\n") explain output)
 
 -- a text describes an automaton and accepts the words that fit the text of a word: without a premise each ultimately
 -- periodic one, and all if each letter fixes each proposition of its automaton; by the limited principle of omniscience
@@ -61,33 +54,24 @@ pub record AcceptsFitting (word text : List ℕ) : Type 0 where
       → (named : NamedWord) → Fits word named → TextAccepts text named
   pub all : LimitedPrincipleOfOmniscience → (named : NamedWord) → Fits word named → TextAccepts text named
 
--- words show that a text, which describes an automaton, does not accept what the text of a word admits, and the output
--- ends in them if an explanation is asked for
+-- the text of a word is read, and the text of an automaton describes one: `no`, with words that are admitted and not
+-- accepted
 pub record TellsRejected (word text : List ℕ) (explain : Bool) (output : List ℕ) : Type 0 where
   pub described : DescribesSome text
   pub symbolic : SymbolicWord
   pub read : IsWordText word symbolic
-  pub words : List ℕ
-  pub fitting : NamedWord
-  pub fits : Fits words fitting
-  pub rejected : (named : NamedWord) → Fits words named → Admits symbolic named × (¬ TextAccepts text named)
-  pub told : explain ≡ true → EndsInWord output words
+  pub told : TellsWords (λ named. Admits symbolic named × (¬ TextAccepts text named)) (codes "no\n") [] explain output
 
 -- what an answer of `accepts` says: that the text accepts the words, or words that it does not accept
 abbrev pub SaysAccepted : (word text : List ℕ) (explain : Bool) → Exit → List ℕ → Type 0
-SaysAccepted word text explain Done output = AcceptsFitting word text
+SaysAccepted word text explain Done output = (output ≡ codes "yes\n") × AcceptsFitting word text
 SaysAccepted word text explain No output = TellsRejected word text explain output
 
--- words show that a text accepts what the text of a word admits, and the output ends in them if an explanation is asked
--- for
+-- the text of a word is read: `yes`, with words that are admitted and that a text accepts
 pub record TellsAccepted (word text : List ℕ) (explain : Bool) (output : List ℕ) : Type 0 where
   pub symbolic : SymbolicWord
   pub read : IsWordText word symbolic
-  pub words : List ℕ
-  pub fitting : NamedWord
-  pub fits : Fits words fitting
-  pub accepted : (named : NamedWord) → Fits words named → Admits symbolic named × TextAccepts text named
-  pub told : explain ≡ true → EndsInWord output words
+  pub told : TellsWords (λ named. Admits symbolic named × TextAccepts text named) (codes "yes\n") [] explain output
 
 -- a text describes an automaton and accepts none of the words that fit the text of a word
 pub record AcceptsNoneFitting (word text : List ℕ) : Type 0 where
@@ -98,7 +82,7 @@ pub record AcceptsNoneFitting (word text : List ℕ) : Type 0 where
 -- what an answer of `accepts --some` says: words that the text accepts, or that it accepts none that fits
 abbrev pub SaysSomeAccepted : (word text : List ℕ) (explain : Bool) → Exit → List ℕ → Type 0
 SaysSomeAccepted word text explain Done output = TellsAccepted word text explain output
-SaysSomeAccepted word text explain No output = AcceptsNoneFitting word text
+SaysSomeAccepted word text explain No output = (output ≡ codes "no\n") × AcceptsNoneFitting word text
 
 -- each answer says so
 abbrev pub ContainedTextsAreContained : Type 0

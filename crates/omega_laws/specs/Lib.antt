@@ -2,13 +2,14 @@
 -- The laws of automata without useless states.
 -- The laws of unions.
 -- The law of the words that `empty --word` writes.
--- The laws of what `satisfies` answers.
+-- The laws of what `satisfies` and `equal -f` answer.
 -- The laws of the texts of controllers, of what is answered to them, and of answers by lifting.
 pub mod ComplementTexts
 pub mod Containment
 pub mod Describes
 pub mod InclusionTexts
 pub mod ProductTexts
+pub mod TellsWords
 pub mod TextWords
 pub mod Trimming
 pub mod Trims

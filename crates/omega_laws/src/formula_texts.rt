@@ -1,7 +1,8 @@
-//! Laws of what `satisfies` answers, in words of texts and of the words that automata accept and that satisfy formulas:
-//! each call does nothing and states one law.
+//! Laws of what `satisfies` and `equal -f` answer, in words of texts and of the words that automata accept and that
+//! satisfy formulas: each call does nothing and states one law.
 
-ghost use Rattle.omega_laws.specs.FormulaTexts.{AdmittedWordsSatisfy, SatisfyingTextsSatisfy};
+ghost use Rattle.omega_laws.specs.FormulaTexts.{AdmittedWordsSatisfy, EqualTextsHaveTheWords};
+ghost use Rattle.omega_laws.specs.FormulaTexts.{SatisfyingTextsSatisfy};
 
 use crate::describing::described_automata_are_alike;
 use omega_answers_formula::laws::formula_names_are_strings;
@@ -30,6 +31,19 @@ pub fn admitted_words_satisfy()
 {
     names_are_strings();
     words_of_texts_are_one();
+    formulas_of_texts_are_one();
+    formula_names_are_strings();
+}
+
+/// Shows what `equal -f` answers of the texts of formulas and of one that describes an automaton: for each formula `yes`
+/// only if the automaton accepts exactly the words that satisfy it, and otherwise words of which one is so and the other
+/// is not. With an explanation a line after `no` says which, and the answer ends in these words. `yes` has the premise of
+/// the limited principle of omniscience, and `no` has none for its words.
+pub fn equal_texts_have_the_words()
+    ensures { EqualTextsHaveTheWords }
+{
+    described_automata_are_alike();
+    read_automata_are_writable();
     formulas_of_texts_are_one();
     formula_names_are_strings();
 }

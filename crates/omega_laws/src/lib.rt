@@ -10,7 +10,8 @@
 //!
 //! A law of `accepts`: it accepts the word that `empty --word` writes. No code that runs.
 //!
-//! Laws of `satisfies`: what its answers say of the words that a text accepts or admits. No code that runs.
+//! Laws of `satisfies` and of `equal -f`: what their answers say of the words that a text accepts or admits. No code that
+//! runs.
 //!
 //! Laws of `realize`: that the text of a controller is read back, that `verify --specification` judges it right, and
 //! that answers by lifting are given within the budget; and that no refusal of `verify --specification` is about a
@@ -37,7 +38,9 @@ pub use complement_texts::{complement_texts_accept_the_rest, complements_are_rea
 pub use containment::{empty_means_contained, lassos_mean_not_contained, met_texts_accept_both};
 pub use controller_texts::controllers_are_read_back;
 pub use describing::{automata_are_described, described_automata_are_alike};
-pub use formula_texts::{admitted_words_satisfy, satisfying_texts_satisfy};
+pub use formula_texts::{
+    admitted_words_satisfy, equal_texts_have_the_words, satisfying_texts_satisfy,
+};
 pub use inclusion_texts::{
     accepted_texts_are_accepted, contained_texts_are_contained, equal_texts_are_equal,
     some_texts_are_accepted,

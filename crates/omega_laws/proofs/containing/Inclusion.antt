@@ -1,5 +1,5 @@
 -- What `contained` and `equal` answer of two texts.
-use Rattle.std.proofs.Common.{◌≡◌, ◌++◌, ℕ, inl, inr, Bool, true, List, [], codes, sym, ap, subst, ◌∙◌, append_assoc}
+use Rattle.std.proofs.Common.{◌≡◌, ◌++◌, ℕ, inl, inr, Bool, List, [], codes, sym, subst}
 use Rattle.omega_hoa_automaton.specs.Automaton.{Description}
 use Rattle.omega_hoa.specs.Alone.{IsAutomatonText}
 use Rattle.omega_hoa_round_trips.specs.Laws.{ReadAutomataAreWritable}
@@ -19,22 +19,11 @@ use Rattle.omega_answers_inclusion.specs.Contained.{containment_answer}
 use Rattle.omega_answers_inclusion.specs.Equal.{equality_answer}
 use Rattle.omega_answers_inclusion.specs.Example.{example_lines}
 use Rattle.omega_laws.specs.Describes.{DescribedAreAlike}
-use Rattle.omega_laws.specs.InclusionTexts.{ContainedTextsAreContained, EndsInWord, EqualTextsAreEqual, SaysContained, SaysEqual, TellsOutside}
+use Rattle.omega_laws.specs.InclusionTexts.{ContainedTextsAreContained, EqualTextsAreEqual, SaysContained, SaysEqual, TellsOutside}
 use Rattle.omega_laws.specs.TextWords.{AcceptsWordsOf}
 use Rattle.omega_laws.proofs.containing.Described.{described}
 use Rattle.omega_laws.proofs.containing.Parted.{seen_periodic}
 use Rattle.omega_laws.proofs.containing.Texts.{of_automaton, of_text}
-
--- an explanation ends in the words of its counterexample
-example_told : (explain : Bool) (output who : List ℕ) (example : Example) → output ≡ codes "no\n" ++ explained explain (who ++ example_lines example)
-    → explain ≡ true → EndsInWord output (lasso_word_text example.word)
-example_told explain output who example is asked =
-    let lasso : List ℕ = lasso_text example.stem example.cycle in
-    let line : List ℕ = codes "word " ++ (lasso_word_text example.word ++ codes "\n") in (
-      codes "no\n" ++ (who ++ lasso),
-      is ∙ ap (λ (b : Bool). codes "no\n" ++ explained b (who ++ example_lines example)) asked
-          ∙ ap (λ (rest : List ℕ). codes "no\n" ++ rest) (sym (append_assoc who lasso line)) ∙ sym (append_assoc (codes "no\n") (who ++ lasso) line),
-    )
 
 module _ (law : DescribedAreAlike) (writable : ReadAutomataAreWritable) where
   -- two texts and their automata
@@ -47,23 +36,24 @@ module _ (law : DescribedAreAlike) (writable : ReadAutomataAreWritable) where
       all = λ omniscience word accepts. of_automaton other a word other_read (is.all omniscience word (of_text law text one word read accepts));
     }
 
-    words_told : (explain : Bool) (output who : List ℕ) (example : Example) → IsCounterexample one a example
-        → output ≡ codes "no\n" ++ explained explain (who ++ example_lines example) → TellsOutside text other explain output
-    words_told explain output who example is written =
+    words_told : (explain : Bool) (output lines : List ℕ) (example : Example) → IsCounterexample one a example
+        → output ≡ codes "no\n" ++ explained explain (lines ++ example_lines example) → TellsOutside text other lines explain output
+    words_told explain output lines example is written =
         let strings : HasStrings one = (writable one (inl (text, read))).propositions in
         let other_strings : HasStrings a = (writable a (inl (other, other_read))).propositions in
         record {
-          words = lasso_word_text example.word;
-          shows = record {
-            described = (a, described other a other_read);
+          described = (a, described other a other_read);
+          told = record {
+            words = lasso_word_text example.word;
             fitting = is.word;
             fits = is.fits (strings, other_strings);
-            outside = λ word fits. (let outside = is.all_wanted (strings, other_strings) word fits in (
+            wanted = λ word fits. (let outside = is.all_wanted (strings, other_strings) word fits in (
               of_automaton text one word read outside.accepted,
               λ accepts. outside.not_accepted (of_text law other a word other_read accepts),
             ));
+            others = lasso_text example.stem example.cycle;
+            told = written;
           };
-          told = example_told explain output who example written;
         }
 
   pub contained_said : ContainedTextsAreContained
@@ -72,7 +62,7 @@ module _ (law : DescribedAreAlike) (writable : ReadAutomataAreWritable) where
       go : (said : Containment) → IsContainment answer.input answer.file said → IsReply (containment_answer explain said) exit output → SaysContained file input explain exit output
       go Contained right reply =
           subst (λ (e : Exit). SaysContained file input explain e output) (sym reply.0)
-          (words_accepted input file answer.input answer.file answer.input_read answer.file_read right)
+          (reply.1, words_accepted input file answer.input answer.file answer.input_read answer.file_read right)
       go (NotContained example) right reply =
           subst (λ (e : Exit). SaysContained file input explain e output) (sym reply.0)
           (words_told input file answer.input answer.file answer.input_read answer.file_read explain output [] example right reply.1)
@@ -83,6 +73,7 @@ module _ (law : DescribedAreAlike) (writable : ReadAutomataAreWritable) where
       go : (said : Equality) → IsEquality answer.input answer.file said → IsReply (equality_answer explain said) exit output → SaysEqual file input explain exit output
       go Equal right reply =
           subst (λ (e : Exit). SaysEqual file input explain e output) (sym reply.0) (
+            reply.1,
             words_accepted input file answer.input answer.file answer.input_read answer.file_read right.0,
             words_accepted file input answer.file answer.input answer.file_read answer.input_read right.1,
           )

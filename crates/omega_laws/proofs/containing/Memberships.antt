@@ -1,5 +1,5 @@
 -- What `accepts` answers of the text of a word and of that of an automaton.
-use Rattle.std.proofs.Common.{◌≡◌, ◌++◌, ℕ, inl, Bool, true, List, Contains, codes, append_assoc, sym, ap, subst, ◌∙◌}
+use Rattle.std.proofs.Common.{◌≡◌, ℕ, inl, List, [], Contains, sym, subst}
 use Rattle.omega_hoa_automaton.specs.Automaton.{Description}
 use Rattle.omega_hoa_round_trips.specs.Laws.{ReadAutomataAreWritable}
 use Rattle.omega_io.specs.declared.exit.Exit.{Exit}
@@ -11,7 +11,6 @@ use Rattle.omega_lang_lasso_word.specs.declared.symbolic_word.SymbolicWord.{Symb
 use Rattle.omega_text.specs.NamedWords.{NamedWord}
 use Rattle.omega_lang_word_text.specs.Laws.{FittingTextsAreRead, NamesAreStrings, WordsOfTextsAreOne}
 use Rattle.omega_lang_word_text.specs.Text.{IsWordText}
-use Rattle.omega_lang_intersection.specs.declared.answer.Example.{Example}
 use Rattle.omega_lang_intersection.specs.declared.answer.Intersection.{Intersection}
 use Rattle.omega_lang_intersection.specs.declared.answer.Intersection.TheVariants.{Common, Empty}
 use Rattle.omega_lang_lasso_text.specs.Written.{lasso_text}
@@ -20,12 +19,11 @@ use Rattle.omega_lang_inclusion.specs.OneWord.{IsOneWordFor}
 use Rattle.omega_lang_inclusion.specs.SomeWord.{IsSomeMembership}
 use Rattle.omega_lang_inclusion.specs.declared.membership.Membership.{Membership}
 use Rattle.omega_lang_inclusion.specs.declared.membership.Membership.TheVariants.{Accepted, Rejected}
-use Rattle.omega_io.specs.Answer.{IsReply, explained}
+use Rattle.omega_io.specs.Answer.{IsReply}
 use Rattle.omega_answers_inclusion.specs.Accepts.{membership_answer}
 use Rattle.omega_answers_inclusion.specs.AcceptsSome.{some_exit, some_text}
-use Rattle.omega_answers_inclusion.specs.Example.{example_lines, word_line}
 use Rattle.omega_laws.specs.Describes.{DescribedAreAlike}
-use Rattle.omega_laws.specs.InclusionTexts.{AcceptedTextsAreAccepted, EndsInWord, SaysAccepted, SaysSomeAccepted, SomeTextsAreAccepted}
+use Rattle.omega_laws.specs.InclusionTexts.{AcceptedTextsAreAccepted, SaysAccepted, SaysSomeAccepted, SomeTextsAreAccepted}
 use Rattle.omega_laws.proofs.containing.Described.{described}
 use Rattle.omega_laws.proofs.containing.Parted.{seen_periodic}
 use Rattle.omega_laws.proofs.containing.Texts.{of_automaton, of_text}
@@ -51,19 +49,21 @@ accepted_said law writable fitting names words_one word text explain exit output
 
     go : (said : Membership) → IsMembership symbolic a said → IsReply (membership_answer explain said) exit output → SaysAccepted word text explain exit output
     go Accepted right reply =
-        subst (λ (e : Exit). SaysAccepted word text explain e output) (sym reply.0)
-        (record {
-          described = (a, described text a answer.input_read);
-          read = (symbolic, answer.file_read);
-          periodic = λ named periodic fits. of_automaton text a named answer.input_read (right.periodic named (seen_periodic a named periodic) (admitted named fits));
-          one_word = λ other b read described_too fixed named fits.
-              (let same : other ≡ symbolic = words_one word other symbolic read answer.file_read in
-              let also : b.propositions ≡ a.propositions = (law text b a described_too (described text a answer.input_read)).0 in
-              let own : IsOneWordFor symbolic a = λ letter name listed has.
-              subst (λ (s : SymbolicWord). IsOneWordFor s b) same fixed letter name listed (subst (λ (names : List (List ℕ)). Contains names name) (sym also) has) in
-              of_automaton text a named answer.input_read (right.one_word own named (admitted named fits)));
-          all = λ omniscience named fits. of_automaton text a named answer.input_read (right.all omniscience named (admitted named fits));
-        })
+        subst (λ (e : Exit). SaysAccepted word text explain e output) (sym reply.0) (
+          reply.1,
+          record {
+            described = (a, described text a answer.input_read);
+            read = (symbolic, answer.file_read);
+            periodic = λ named periodic fits. of_automaton text a named answer.input_read (right.periodic named (seen_periodic a named periodic) (admitted named fits));
+            one_word = λ other b read described_too fixed named fits.
+                (let same : other ≡ symbolic = words_one word other symbolic read answer.file_read in
+                let also : b.propositions ≡ a.propositions = (law text b a described_too (described text a answer.input_read)).0 in
+                let own : IsOneWordFor symbolic a = λ letter name listed has.
+                subst (λ (s : SymbolicWord). IsOneWordFor s b) same fixed letter name listed (subst (λ (names : List (List ℕ)). Contains names name) (sym also) has) in
+                of_automaton text a named answer.input_read (right.one_word own named (admitted named fits)));
+            all = λ omniscience named fits. of_automaton text a named answer.input_read (right.all omniscience named (admitted named fits));
+          },
+        )
     go (Rejected words) right reply =
         let strings : HasStrings a = (writable a (inl (text, answer.input_read))).propositions in
         let own = names word symbolic answer.file_read in
@@ -72,23 +72,16 @@ accepted_said law writable fitting names words_one word text explain exit output
           described = (a, described text a answer.input_read);
           symbolic = symbolic;
           read = answer.file_read;
-          words = lasso_word_text words;
-          fitting = right.named;
-          fits = right.fits own strings;
-          rejected = λ named fits. (let rejected = right.all_rejected own strings named fits in
-              (rejected.admitted, λ accepts. rejected.not_accepted (of_text law text a named answer.input_read accepts)));
-          told = λ asked. (codes "no\n", reply.1 ∙ ap (λ (b : Bool). codes "no\n" ++ explained b (word_line words)) asked);
+          told = record {
+            words = lasso_word_text words;
+            fitting = right.named;
+            fits = right.fits own strings;
+            wanted = λ named fits. (let rejected = right.all_rejected own strings named fits in
+                (rejected.admitted, λ accepts. rejected.not_accepted (of_text law text a named answer.input_read accepts)));
+            others = [];
+            told = reply.1;
+          };
         })
-
--- an explanation ends in the words of its example
-example_told : (explain : Bool) (output : List ℕ) (example : Example) → output ≡ codes "yes\n" ++ explained explain (example_lines example)
-    → explain ≡ true → EndsInWord output (lasso_word_text example.word)
-example_told explain output example is asked =
-    let lasso : List ℕ = lasso_text example.stem example.cycle in
-    let line : List ℕ = word_line example.word in (
-      codes "yes\n" ++ lasso,
-      is ∙ ap (λ (b : Bool). codes "yes\n" ++ explained b (example_lines example)) asked ∙ sym (append_assoc (codes "yes\n") lasso line),
-    )
 
 pub some_said : DescribedAreAlike → ReadAutomataAreWritable → FittingTextsAreRead → NamesAreStrings → WordsOfTextsAreOne → SomeTextsAreAccepted
 some_said law writable fitting names words_one word text explain exit output answer = go answer.holds.answer answer.holds.right answer.holds.ends answer.holds.written
@@ -104,24 +97,29 @@ some_said law writable fitting names words_one word text explain exit output ans
 
     go : (said : Intersection) → IsSomeMembership symbolic a said → exit ≡ some_exit said → output ≡ some_text explain said → SaysSomeAccepted word text explain exit output
     go Empty none ends written =
-        subst (λ (e : Exit). SaysSomeAccepted word text explain e output) (sym ends)
-        (record {
-          described = (a, described text a answer.input_read);
-          read = (symbolic, answer.file_read);
-          none = λ named fits accepts. none named (record {
-            admitted = fitting_admitted fitting words_one word symbolic answer.file_read named fits;
-            accepted = of_text law text a named answer.input_read accepts;
-          });
-        })
+        subst (λ (e : Exit). SaysSomeAccepted word text explain e output) (sym ends) (
+          written,
+          record {
+            described = (a, described text a answer.input_read);
+            read = (symbolic, answer.file_read);
+            none = λ named fits accepts. none named (record {
+              admitted = fitting_admitted fitting words_one word symbolic answer.file_read named fits;
+              accepted = of_text law text a named answer.input_read accepts;
+            });
+          },
+        )
     go (Common example) is ends written =
         let both : HasStrings a × HasStringNames symbolic = (strings, names word symbolic answer.file_read) in
         subst (λ (e : Exit). SaysSomeAccepted word text explain e output) (sym ends)
         (record {
           symbolic = symbolic;
           read = answer.file_read;
-          words = lasso_word_text example.word;
-          fitting = is.word;
-          fits = is.fits both;
-          accepted = λ named fits. (let member = is.all_wanted both named fits in (member.admitted, of_automaton text a named answer.input_read member.accepted));
-          told = example_told explain output example written;
+          told = record {
+            words = lasso_word_text example.word;
+            fitting = is.word;
+            fits = is.fits both;
+            wanted = λ named fits. (let member = is.all_wanted both named fits in (member.admitted, of_automaton text a named answer.input_read member.accepted));
+            others = lasso_text example.stem example.cycle;
+            told = written;
+          };
         })
