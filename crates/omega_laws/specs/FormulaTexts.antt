@@ -39,9 +39,9 @@ SaysAllSatisfy explain IsOne formula No output =
 abbrev pub IsMissing : (IsOne : NamedWord → Type 0) → FormulaTree → NamedWord → Type 0
 IsMissing IsOne formula word = Satisfies formula word × (¬ IsOne word)
 
--- what an answer of `equal -f` says of a formula and of these words: by that principle, that they are exactly those that
--- satisfy the formula; or without a premise words that do not satisfy it, or such that do and are missing, where each of
--- these words satisfies it
+-- what an answer of `equal -f` says of a formula and of these words: by that principle, that they are exactly those
+-- that satisfy the formula; or without a premise words that do not satisfy it; or that each satisfies it, and such that
+-- do and are missing
 abbrev pub SaysTheSame : (explain : Bool) → (IsOne : NamedWord → Type 0) → FormulaTree
     → Exit → List ℕ → Type 0
 SaysTheSame explain IsOne formula Done output = (output ≡ codes "yes\n")
@@ -69,8 +69,8 @@ SatisfyingTextsSatisfy =
     → AreSatisfiesAnswers formulas text explain exit output
     → AreAnswered (SaysOfTexts (Describes text) AcceptsNamed (SaysAllSatisfy explain)) formulas exit output
 
--- the answers of `satisfies --word` say so, formula by formula, of the symbolic word of a text, and of the words that it
--- admits
+-- the answers of `satisfies --word` say so, formula by formula, of the symbolic word of a text, and of the words that
+-- it admits
 abbrev pub AdmittedWordsSatisfy : Type 0
 AdmittedWordsSatisfy =
     (formulas : List (List ℕ)) (text : List ℕ) (explain : Bool) (exit : Exit) (output : List ℕ)

@@ -60,7 +60,8 @@ pub record TellsRejected (word text : List ℕ) (explain : Bool) (output : List 
   pub described : DescribesSome text
   pub symbolic : SymbolicWord
   pub read : IsWordText word symbolic
-  pub told : TellsWords (λ named. Admits symbolic named × (¬ TextAccepts text named)) (codes "no\n") [] explain output
+  pub told : TellsWords (λ named. Admits symbolic named × (¬ TextAccepts text named)) (codes "no\n") []
+      explain output
 
 -- what an answer of `accepts` says: that the text accepts the words, or words that it does not accept
 abbrev pub SaysAccepted : (word text : List ℕ) (explain : Bool) → Exit → List ℕ → Type 0
@@ -71,7 +72,8 @@ SaysAccepted word text explain No output = TellsRejected word text explain outpu
 pub record TellsAccepted (word text : List ℕ) (explain : Bool) (output : List ℕ) : Type 0 where
   pub symbolic : SymbolicWord
   pub read : IsWordText word symbolic
-  pub told : TellsWords (λ named. Admits symbolic named × TextAccepts text named) (codes "yes\n") [] explain output
+  pub told : TellsWords (λ named. Admits symbolic named × TextAccepts text named) (codes "yes\n") []
+      explain output
 
 -- a text describes an automaton and accepts none of the words that fit the text of a word
 pub record AcceptsNoneFitting (word text : List ℕ) : Type 0 where

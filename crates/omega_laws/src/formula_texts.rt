@@ -10,9 +10,9 @@ use omega_hoa_round_trips::read_automata_are_writable;
 use omega_lang_word_text::laws::{names_are_strings, words_of_texts_are_one};
 use omega_ltl_text::laws::formulas_of_texts_are_one;
 
-/// Shows what `satisfies` answers of the texts of formulas and of one that describes an automaton: for each formula `yes`
-/// only if each word that the automaton accepts satisfies it, and otherwise words that are accepted and do not satisfy
-/// it. With an explanation the answer ends in these words. `yes` has the premise of the limited principle of
+/// Shows what `satisfies` answers of the texts of formulas and of one that describes an automaton: for each formula
+/// `yes` only if each word that the automaton accepts satisfies it, and otherwise words that are accepted and do not
+/// satisfy it. With an explanation the answer ends in these words. `yes` has the premise of the limited principle of
 /// omniscience, and `no` has none. Wherever there is an answer, each text says or describes something.
 pub fn satisfying_texts_satisfy()
     ensures { SatisfyingTextsSatisfy }
@@ -35,10 +35,11 @@ pub fn admitted_words_satisfy()
     formula_names_are_strings();
 }
 
-/// Shows what `equal -f` answers of the texts of formulas and of one that describes an automaton: for each formula `yes`
-/// only if the automaton accepts exactly the words that satisfy it, and otherwise words of which one is so and the other
-/// is not. With an explanation a line after `no` says which, and the answer ends in these words. `yes` has the premise of
-/// the limited principle of omniscience, and `no` has none for its words.
+/// Shows what `equal -f` answers of the texts of formulas and of one that describes an automaton: for each formula
+/// `yes` only if the automaton accepts exactly the words that satisfy it. Otherwise there are words that it accepts and
+/// that do not satisfy the formula, or words that do and that it does not accept. With an explanation a line after `no`
+/// says which of the two is so, and the answer ends in these words. `yes` has the premise of the limited principle of
+/// omniscience; `no` has none for its words.
 pub fn equal_texts_have_the_words()
     ensures { EqualTextsHaveTheWords }
 {

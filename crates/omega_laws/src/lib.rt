@@ -1,8 +1,8 @@
 //! Laws of the texts of products and complements: that their canonical texts are read back, and what `meet`,
 //! `complement` and `empty` say of two texts, one after the other. And what `meet --trim` says. No code that runs.
 //!
-//! Laws of the automata that texts describe, whatever faults a text may have: of each text of an automaton there is one,
-//! and all that one text describes accept the same words. No code that runs.
+//! Laws of the automata that texts describe, whatever faults a text may have: of each text of an automaton there is
+//! one, and all that one text describes accept the same words. No code that runs.
 //!
 //! Laws of automata without useless states: the words that they accept. No code that runs.
 //!
@@ -10,8 +10,8 @@
 //!
 //! A law of `accepts`: it accepts the word that `empty --word` writes. No code that runs.
 //!
-//! Laws of `satisfies` and of `equal -f`: what their answers say of the words that a text accepts or admits. No code that
-//! runs.
+//! Laws of `satisfies` and of `equal -f`: what their answers say of the words that a text accepts or admits. No code
+//! that runs.
 //!
 //! Laws of `realize`: that the text of a controller is read back, that `verify --specification` judges it right, and
 //! that answers by lifting are given within the budget; and that no refusal of `verify --specification` is about a
