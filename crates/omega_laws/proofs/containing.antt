@@ -4,6 +4,8 @@ pub mod Inclusion
 pub mod Joined
 pub mod Memberships
 pub mod Parted
+pub mod Plays
+pub mod Realizing
 pub mod Said
 pub mod Satisfying
 pub mod Texts

@@ -17,7 +17,9 @@ pub mod Unions
 pub mod WrittenTexts
 pub mod WrittenWords
 pub mod ControllerTexts
+pub mod FormulaStrategies
 pub mod FormulaTexts
 pub mod LiftedAnswers
+pub mod RealizedFormulas
 pub mod WrittenControllers
 pub mod WrittenCircuits

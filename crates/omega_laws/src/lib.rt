@@ -13,6 +13,8 @@
 //! Laws of `satisfies` and of `equal -f`: what their answers say of the words that a text accepts or admits. No code
 //! that runs.
 //!
+//! Laws of `realize -f`: what its answers say of the strategies of the system and of the environment. No code that runs.
+//!
 //! Laws of `realize`: that the text of a controller is read back, that `verify --specification` judges it right, and
 //! that answers by lifting are given within the budget; and that no refusal of `verify --specification` is about a
 //! circuit that `realize --aiger` writes. No code that runs.
@@ -26,6 +28,7 @@ mod formula_texts;
 mod inclusion_texts;
 mod lifted_answers;
 mod product_texts;
+mod realized_formulas;
 mod trimming;
 mod trims;
 mod unions;
@@ -52,6 +55,7 @@ pub use omega_lang_word_laws::{
     words_are_named, words_seen_alike_are_one,
 };
 pub use product_texts::products_are_read_back;
+pub use realized_formulas::{formula_winners_are_exact, realize_formula_answers_are_exact};
 pub use trimming::trimmed_meetings_accept_both;
 pub use trims::{trimmed_texts_accept_the_same, trims_accept_the_same, trims_are_one};
 pub use unions::{
