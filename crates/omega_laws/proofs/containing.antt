@@ -1,7 +1,9 @@
 -- That texts which are met and complemented say whether the words of one are words of another.
+pub mod Alike
 pub mod Described
 pub mod Inclusion
 pub mod Joined
+pub mod JudgedTexts
 pub mod Memberships
 pub mod Parted
 pub mod Plays

@@ -13,7 +13,8 @@
 //! Laws of `satisfies` and of `equal -f`: what their answers say of the words that a text accepts or admits. No code
 //! that runs.
 //!
-//! Laws of `realize -f`: what its answers say of the strategies of the system and of the environment. No code that runs.
+//! Laws of `realize -f` and `verify -f`: what their answers say of the strategies of the system and of the environment,
+//! and of the automata that texts describe. No code that runs.
 //!
 //! Laws of `realize`: that the text of a controller is read back, that `verify --specification` judges it right, and
 //! that answers by lifting are given within the budget; and that no refusal of `verify --specification` is about a
@@ -26,6 +27,7 @@ mod controller_texts;
 mod describing;
 mod formula_texts;
 mod inclusion_texts;
+mod judged_texts;
 mod lifted_answers;
 mod product_texts;
 mod realized_formulas;
@@ -48,6 +50,7 @@ pub use inclusion_texts::{
     accepted_texts_are_accepted, contained_texts_are_contained, equal_texts_are_equal,
     some_texts_are_accepted,
 };
+pub use judged_texts::{formula_controllers_are_judged, formula_counter_strategies_are_judged};
 pub use lifted_answers::lifted_answers_end;
 pub use omega_lang_word_laws::{
     complements_are_apart, complements_are_one, complements_are_writable, complements_cover,

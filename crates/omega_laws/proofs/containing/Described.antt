@@ -1,5 +1,5 @@
 -- Automata that one text describes.
-use Rattle.std.proofs.Common.{◌≡◌, ℕ, Bool, List, [], ◌∷◌, length, Contains, Option, Some, None, refl, sym, ap, subst, ◌∙◌}
+use Rattle.std.proofs.Common.{◌≡◌, ℕ, ◌+◌, Bool, List, [], ◌∷◌, length, Contains, Option, Some, None, refl, sym, ap, subst, ◌∙◌}
 use Rattle.std.specs.Prelude.{option_and_then, option_map, slice_get, unwrap_or}
 use Rattle.std.specs.List.{AllZip, filter_map, flat_map}
 use Rattle.omega_text.specs.Cut.{CutsAreOne}
@@ -22,9 +22,9 @@ use Rattle.omega_hoa_automaton.specs.declared.state.State.{State}
 use Rattle.omega_hoa_automaton.proofs.MarkLemmas.{rising_is_one}
 use Rattle.omega_hoa.specs.Segment.{IsRawOf}
 use Rattle.omega_hoa_round_trips.specs.Laws.{IsRawText}
-use Rattle.omega_lang_runs.specs.Lasso.{label_of, marks_at, marks_of}
+use Rattle.omega_lang_runs.specs.Lasso.{IsStep, label_of, marks_at, marks_of}
 use Rattle.omega_lang_runs.specs.Runs.{Satisfies}
-use Rattle.omega_lang_runs.specs.Words.{Allows, IsAccepted, IsValuation, index_in}
+use Rattle.omega_lang_runs.specs.Words.{Allows, CanBeTaken, IsAccepted, IsValuation, index_in}
 use Rattle.omega_lang_word_laws.specs.NamedWords.{AcceptsNamed, part_of}
 use Rattle.omega_laws.specs.Describes.{AutomataAreDescribed, DescribedAreAlike, Describes}
 
@@ -96,7 +96,7 @@ states_one definitions raw a b one other =
 -- ---- automata with the same parts
 
 -- what acceptance looks at is the same
-record HaveSameParts (a b : Description) : Type 0 where
+pub record HaveSameParts (a b : Description) : Type 0 where
   pub starts : a.starts ≡ b.starts
   pub propositions : a.propositions ≡ b.propositions
   pub acceptance : a.acceptance ≡ b.acceptance
@@ -112,7 +112,7 @@ module _ (cuts_one : CutsAreOne hoa_format) (raws_one : RawsAreOne) (text : List
       let same : here.lexemes ≡ there.lexemes = cuts_one text here.lexemes there.lexemes here.cut there.cut in
       (raws_one there.lexemes one [] (subst (λ lexemes. IsRawOf lexemes one) same here.written) other [] there.written).0
 
-  same_parts : (a b : Description) → Describes text a → Describes text b → HaveSameParts a b
+  pub same_parts : (a b : Description) → Describes text a → Describes text b → HaveSameParts a b
   same_parts a b one other =
       let raw : one.raw ≡ other.raw = raw_one one.raw other.raw one.written other.written in
       let P : RawAutomaton → Type 0 = λ r. AllZip (IsStateOf (definitions_of r)) r.states a.defined in
@@ -139,7 +139,23 @@ module _ (a b : Description) (same : HaveSameParts a b) where
       (subst (λ (states : List State). IsValuation (length a.propositions) (index_in states number) held) same.defined is)
   allowed_alike number (Some label) held is = is
 
-  accepted_alike : (word : ℕ → ℕ → Bool) → IsAccepted a word → IsAccepted b word
+  pub same_step : (from number to : ℕ) → IsStep a from number to → IsStep b from number to
+  same_step from number to is = record {
+    edge = is.edge;
+    numbered = same_edge number is.edge is.numbered;
+    usable = is.usable;
+    leaves = is.leaves;
+    enters = is.enters;
+  }
+
+  pub same_taken : (number : ℕ) (held : ℕ → Bool) → CanBeTaken a number held → CanBeTaken b number held
+  same_taken number held is = record {
+    edge = is.edge;
+    numbered = same_edge number is.edge is.numbered;
+    allowed = allowed_alike number (label_of is.edge) held is.allowed;
+  }
+
+  pub accepted_alike : (word : ℕ → ℕ → Bool) → IsAccepted a word → IsAccepted b word
   accepted_alike word is =
       let run = is.accepting.run in
       let marks_in : List State → ℕ → List ℕ = λ states i. unwrap_or (option_map marks_of (edge_in states (is.edges i))) [] in
@@ -149,25 +165,15 @@ module _ (a b : Description) (same : HaveSameParts a b) where
         accepting = record {
           run = record {
             begins = subst (λ (starts : List (List ℕ)). Contains starts (is.states 0 ∷ [])) same.starts run.begins;
-            steps = λ i. record {
-              edge = (run.steps i).edge;
-              numbered = same_edge (is.edges i) (run.steps i).edge (run.steps i).numbered;
-              usable = (run.steps i).usable;
-              leaves = (run.steps i).leaves;
-              enters = (run.steps i).enters;
-            };
+            steps = λ i. same_step (is.states i) (is.edges i) (is.states (i + 1)) (run.steps i);
           };
           accepted = subst (λ f. Satisfies (λ i. marks_at b (is.edges i)) f) same.acceptance
               (subst (λ (states : List State). Satisfies (marks_in states) a.acceptance) same.defined is.accepting.accepted);
         };
-        taken = λ i. record {
-          edge = (is.taken i).edge;
-          numbered = same_edge (is.edges i) (is.taken i).edge (is.taken i).numbered;
-          allowed = allowed_alike (is.edges i) (label_of (is.taken i).edge) (word i) (is.taken i).allowed;
-        };
+        taken = λ i. same_taken (is.edges i) (word i) (is.taken i);
       }
 
-  named_alike : (word : NamedWord) → AcceptsNamed a word → AcceptsNamed b word
+  pub named_alike : (word : NamedWord) → AcceptsNamed a word → AcceptsNamed b word
   named_alike word accepted =
       subst (λ (names : List (List ℕ)). IsAccepted b (part_of names word)) same.propositions (accepted_alike (part_of a.propositions word) accepted)
 

@@ -31,7 +31,7 @@ pub record Known : Type 0 where
   pub beat : CounterStrategiesBeatFormulas
 
 -- the outputs of lists that part the names
-outputs_are : (formula : NumberedFormula) → formula.table.names ≡ names_of (tree_of formula) → (outs ins : Option (List (List ℕ))) → ArePartedBy formula outs ins
+pub outputs_are : (formula : NumberedFormula) → formula.table.names ≡ names_of (tree_of formula) → (outs ins : Option (List (List ℕ))) → ArePartedBy formula outs ins
     → outputs_by formula outs ins ≡ unwrap_or outs (names_without (unwrap_or ins []) (names_of (tree_of formula)))
 outputs_are formula names (Some outs) ins parted = refl
 outputs_are formula names None (Some ins) parted = ap (names_without ins) names

@@ -1,0 +1,90 @@
+-- Automata with the same parts are the same controllers and counter-strategies for a formula.
+use Rattle.std.proofs.Common.{ℕ, Bool, List, [], ◌∷◌, Contains, sym, subst}
+use Rattle.std.specs.Prelude.{slice_index_or}
+use Rattle.omega_hoa_automaton.specs.Automaton.{Description}
+use Rattle.omega_lang_runs.specs.Lasso.{IsStart, Leads}
+use Rattle.omega_lang_runs.specs.Words.{CanBeTaken}
+use Rattle.omega_ltl_formula.specs.Formula.{FormulaTree}
+use Rattle.omega_synth_check.specs.CounterJudging.{GoesOn, NamedLetter}
+use Rattle.omega_synth_check.specs.CounterRefusing.{system_numbers}
+use Rattle.omega_synth_check.specs.Judging.{AnswersAll, IsAnswered, IsReached}
+use Rattle.omega_synth_controllers.specs.Controllers.{Answers}
+use Rattle.omega_synth_formula.specs.CounterJudging.{IsCounterStrategyForFormula}
+use Rattle.omega_synth_formula.specs.Following.{HasFollowedLetter}
+use Rattle.omega_synth_formula.specs.Judging.{IsControllerForFormula}
+use Rattle.omega_laws.proofs.containing.Described.{HaveSameParts, named_alike, same_step, same_taken}
+
+pub turned : (a b : Description) → HaveSameParts a b → HaveSameParts b a
+turned a b same = record {
+  starts = sym same.starts;
+  propositions = sym same.propositions;
+  acceptance = sym same.acceptance;
+  defined = sym same.defined;
+}
+
+module _ (a b : Description) (same : HaveSameParts a b) where
+  same_start : (state : ℕ) → IsStart a state → IsStart b state
+  same_start state is = subst (λ (starts : List (List ℕ)). Contains starts (state ∷ [])) same.starts is
+
+  same_leads : (from : ℕ) (numbers : List ℕ) (to : ℕ) → Leads a from numbers to → Leads b from numbers to
+  same_leads from [] to leads = leads
+  same_leads from (number ∷ numbers) to leads =
+      (leads.0, same_step a b same from number leads.0 leads.1, same_leads leads.0 numbers to leads.2)
+
+  same_reached : (state : ℕ) → IsReached a state → IsReached b state
+  same_reached state is = record {
+    start = is.start;
+    begins = same_start is.start is.begins;
+    numbers = is.numbers;
+    leads = same_leads is.start is.numbers state is.leads;
+  }
+
+  same_answers : (controlled : List ℕ) (number : ℕ) (given : ℕ → Bool) → Answers a controlled number given → Answers b controlled number given
+  same_answers controlled number given is = record { letter = is.letter; agrees = is.agrees; taken = same_taken a b same number is.letter is.taken }
+
+  same_answered : (controlled : List ℕ) (state : ℕ) (given : ℕ → Bool) → IsAnswered a controlled state given → IsAnswered b controlled state given
+  same_answered controlled state given is = record {
+    number = is.number;
+    next = is.next;
+    step = same_step a b same state is.number is.next is.step;
+    answers = same_answers controlled is.number given is.answers;
+  }
+
+  same_goes : (letter : NamedLetter) (from : ℕ) → GoesOn a letter from → GoesOn b letter from
+  same_goes letter from goes = (
+    goes.0,
+    record {
+      number = goes.1.number;
+      step = same_step a b same from goes.1.number goes.0 goes.1.step;
+      taken = same_taken a b same goes.1.number (λ p. letter (slice_index_or b.propositions p []))
+          (subst (λ (names : List (List ℕ)). CanBeTaken a goes.1.number (λ p. letter (slice_index_or names p []))) same.propositions goes.1.taken);
+    },
+  )
+
+pub same_all : (a b : Description) → HaveSameParts a b → (controlled : List ℕ) → AnswersAll a controlled → AnswersAll b controlled
+same_all a b same controlled all = record {
+  begins = (all.begins.0, same_start a b same all.begins.0 all.begins.1);
+  answered = λ state given reached.
+      same_answered a b same controlled state given (all.answered state given (same_reached b a (turned a b same) state reached));
+}
+
+-- a controller for a formula
+pub same_controller : (a b : Description) → HaveSameParts a b → (formula : FormulaTree) (outs : List (List ℕ))
+    → IsControllerForFormula formula a (system_numbers a.propositions outs) → IsControllerForFormula formula b (system_numbers b.propositions outs)
+same_controller a b same formula outs is =
+    let own : AnswersAll b (system_numbers a.propositions outs) = same_all a b same (system_numbers a.propositions outs) is.answers in
+    record {
+      answers = subst (λ (names : List (List ℕ)). AnswersAll b (system_numbers names outs)) same.propositions own;
+      satisfying = λ word accepts. is.satisfying word (named_alike b a (turned a b same) word accepts);
+    }
+
+-- a counter-strategy for a formula
+pub same_counter_strategy : (a b : Description) → HaveSameParts a b → (formula : FormulaTree) (outs : List (List ℕ))
+    → IsCounterStrategyForFormula formula a outs → IsCounterStrategyForFormula formula b outs
+same_counter_strategy a b same formula outs is = record {
+  begins = (is.begins.0, same_start a b same is.begins.0 is.begins.1);
+  follows = λ state reached.
+      (let letter : HasFollowedLetter a outs state = is.follows state (same_reached b a (turned a b same) state reached) in
+      record { given = letter.given; follows = λ other given. same_goes a b same other state (letter.follows other given) });
+  refused = λ word accepts. is.refused word (named_alike b a (turned a b same) word accepts);
+}

@@ -1,0 +1,6 @@
+use Rattle.omega_laws.proofs.containing.Described.{same_parts}
+use Rattle.omega_laws.proofs.containing.JudgedTexts.{controllers_judged}
+use Rattle.omega_laws.proofs.judged_texts.formula_controllers_are_judged.Goals as goal
+
+pub returns : goal.returns
+returns c = controllers_judged c.formulas_of_texts_are_one.ensures (same_parts c.cuts_are_one.ensures c.raws_are_one.ensures) c.formula_judgements_are_exact.ensures
