@@ -72,6 +72,7 @@ impl Cube {
     /// Returns the cube of the literals of both, or none if they contradict each other.
     pub fn join(self, other: Cube) -> Option<Cube>
         ensures some { IfSome result (IsCubeOfBoth self other) }
+        ensures agree { IfSome result (λ _. AreContradictory self other → ⊥) }
         ensures none { IfNone result (AreContradictory self other) }
     {
         if have_common_bit(self.positive, other.negative)

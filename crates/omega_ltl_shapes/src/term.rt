@@ -69,6 +69,8 @@ impl Term {
     /// Returns the term that fixes what both fix, or none if their literals contradict each other.
     pub fn join(&self, alloc: Global, other: &Term) -> Result<Option<Term>, AllocError>
         ensures some { IfOk result (λ found. IfSome found (IsOfBoth self.now other.now)) }
+        ensures agree { IfOk result
+            (λ found. IfSome found (λ _. AreContradictory self.now.cube other.now.cube → ⊥)) }
         ensures none { IfOk result
             (λ found. IfNone found (AreContradictory self.now.cube other.now.cube)) }
     {

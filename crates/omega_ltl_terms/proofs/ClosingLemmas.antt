@@ -1,12 +1,14 @@
 -- Marked demands, their parts, and the closed set that they are.
 use Rattle.std.proofs.Common.{◌≡◌, ◌⊎◌, inl, inr, ◌<◌, ◌+◌, ◌↔◌, zero, suc, ℕ, Bool, true, false, List, []}
-use Rattle.std.proofs.Common.{◌∷◌, ◌++◌, length, refl, sym, ap, subst, ◌∙◌, arith, take, eqb}
-use Rattle.std.specs.Prelude.{Contains, IsTrue, if◌then◌else◌, replicate}
+use Rattle.std.proofs.Common.{◌∷◌, ◌++◌, length, refl, sym, ap, subst, ◌∙◌, arith, get_or, take, eqb}
+use Rattle.std.specs.Prelude.{AllPairs, Contains, IsTrue, if◌then◌else◌, replicate}
 use Rattle.std.proofs.Math.Seq.{take-append_seam}
 use Rattle.std.proofs.lemmas.Bool.{cases_Bool, cases_eq, cases_lt, eqb-true, false≢true, or_cases, true≢false}
 use Rattle.std.proofs.lemmas.List.{get_or-replicate, get_or_past, length-replicate}
 use Rattle.std.proofs.lemmas.List.Elements.{Contains-append_cases, Contains-append_left}
-use Rattle.std.proofs.lemmas.List.Elements.{Contains-append_right, Contains-push, Contains-push_cases}
+use Rattle.std.proofs.lemmas.List.Elements.{Contains-append_right, Contains-get_or, Contains-push}
+use Rattle.std.proofs.lemmas.List.Elements.{Contains-push_cases}
+use Rattle.std.proofs.lemmas.List.Quantifiers.{all_pairs_push}
 use Rattle.omega_ltl_shapes.specs.Combinations.{Says, SpeaksBelow}
 use Rattle.omega_ltl_shapes.specs.Covers.{Covers, CoversAll, Step}
 use Rattle.omega_ltl_shapes.specs.Demands.{AreTrue, IsLiteralTrue, IsTrueAt, SaysAt, Unfolds, Valuation}
@@ -20,7 +22,7 @@ use Rattle.omega_ltl_shapes.specs.declared.shape.Shape.TheVariants.{Fix, Next, N
 use Rattle.omega_ltl_shapes.proofs.Covering.{folds}
 use Rattle.omega_ltl_shapes.proofs.Grounded.{shape_beyond}
 use Rattle.omega_ltl_terms.specs.Closing.{AreNeverTrue, Closes, brings, combination_parts, is_false}
-use Rattle.omega_ltl_terms.specs.Closing.{kept_part, parts_of, stays_closed}
+use Rattle.omega_ltl_terms.specs.Closing.{IsClosedSet, IsPart, given_part, kept_part, part_of_part, parts_of, stays_closed}
 use Rattle.omega_ltl_terms.specs.private.Marking.{AddsStayed, AreParted, AreStayed, IsMarked}
 use Rattle.omega_ltl_terms.specs.private.Marking.{MarkedAreNeverTrue, MarkedAreTrue, MarksMore, MarksTrue}
 
@@ -152,6 +154,10 @@ module _ (shapes : List Shape) (grounded : AreGrounded shapes) where
         | inl there ↦ marks.true_then v i all e there
         | inr part ↦ parts_true v.held (IsTrueAt v.truth) d i (shape_at shapes d) (v.unfolds d i (marks.true_then v i all d here)) e part
       ];
+      parts = λ demands all e h. elim ((more.exact e).0 h) [
+        | inl there ↦ marks.parts demands all e there
+        | inr part ↦ part_of_part d e (marks.parts demands all d here) part
+      ];
     }
 
     pub parted_marked : is_false (shape_at shapes d) ≡ false → AreParted shapes (d + 1) now → AreParted shapes d after
@@ -216,6 +222,32 @@ closes_all shapes grounded demands blank first marked items none long more marks
     first_true : (v : Valuation shapes) (i : ℕ) → AreTrue v demands i → MarkedAreTrue v i first
     first_true v i all d h = elim ((more.exact d).0 h) [ inl there ↦ absurd (none d there) | inr asked ↦ all d asked ]
 
+-- the marked demands that stay are exactly the parts that do
+pub closed_exactly : (shapes : List Shape) (demands : List ℕ) (blank first marked : List Bool) (items : List ℕ)
+    → ((d : ℕ) → IsMarked blank d → ⊥) → length marked ≡ length shapes → MarksMore demands blank first → MarksTrue shapes first marked
+    → AreParted shapes 0 marked → AreStayed shapes marked items → AllPairs (λ one other. one < other) items → IsClosedSet shapes demands items
+closed_exactly shapes demands blank first marked items none long more marks parted stayed ascending = record {
+  exact = λ d. (
+    λ h. (marks.parts demands first_part d ((stayed d).0 h).1, ((stayed d).0 h).2),
+    λ h. (stayed d).1 (let low : d < length marked = marked_below marked d (all_marked d h.0) in omega arith, all_marked d h.0, h.1),
+  );
+  ascending = ascending;
+}
+  where
+    first_part : (d : ℕ) → IsMarked first d → IsPart shapes demands d
+    first_part d h = elim ((more.exact d).0 h) [ inl there ↦ absurd (none d there) | inr asked ↦ given_part d asked ]
+
+    all_marked : (d : ℕ) → IsPart shapes demands d → IsMarked marked d
+    all_marked d (given_part x h) = marks.keeps x ((more.exact x).1 (inr h))
+    all_marked d (part_of_part x y part h) = (parted x (omega arith) (all_marked x part)).1 y h
+
+-- items in ascending order, with one more that is above all
+pub ascending_more : (d : ℕ) (old new : List ℕ) → (new ≡ old) ⊎ (new ≡ old ++ d ∷ []) → ((e : ℕ) → Contains old e → e < d)
+    → AllPairs (λ one other. one < other) old → AllPairs (λ one other. one < other) new
+ascending_more d old new (inl same) low ascending = subst (AllPairs (λ one other. one < other)) (sym same) ascending
+ascending_more d old new (inr pushed) low ascending = subst (AllPairs (λ one other. one < other)) (sym pushed)
+    (all_pairs_push (λ one other. one < other) old d ascending (λ k e under. low (get_or old k e) (Contains-get_or old k e under)))
+
 -- marks that are never true together are of demands that are not
 pub never_all : (shapes : List Shape) (demands : List ℕ) (blank first : List Bool) → ((d : ℕ) → IsMarked blank d → ⊥) → MarksMore demands blank first
     → MarkedAreNeverTrue shapes first → AreNeverTrue shapes demands
@@ -239,10 +271,11 @@ kept_there goal d b = go (brings goal d) b
 
 -- the demands that stay, one by one
 pub stayed_none : (shapes : List Shape) (marked : List Bool) (d : ℕ) (old : List ℕ) → (IsMarked marked d → IsTrue (stays_closed (shape_at shapes d)) → ⊥) → AddsStayed shapes marked d old old
-stayed_none shapes marked d old lacks = record { exact = λ e. (λ h. inl h, λ h. elim h [ inl there ↦ there | inr one ↦ absurd (lacks one.1 one.2) ]) }
+stayed_none shapes marked d old lacks = record { behind = inl refl; exact = λ e. (λ h. inl h, λ h. elim h [ inl there ↦ there | inr one ↦ absurd (lacks one.1 one.2) ]) }
 
 pub stayed_one : (shapes : List Shape) (marked : List Bool) (d : ℕ) (old : List ℕ) → IsMarked marked d → IsTrue (stays_closed (shape_at shapes d)) → AddsStayed shapes marked d old (old ++ d ∷ [])
 stayed_one shapes marked d old here stays = record {
+  behind = inr refl;
   exact = λ e. (
     λ h. elim (Contains-push_cases old d e h) [ inl there ↦ inl there | inr same ↦ inr (sym same, here, stays) ],
     λ h. elim h [

@@ -1,6 +1,7 @@
 -- Lemmas on terms within others, on good ones, and on lists to which they are added.
 pub mod Within
 pub mod Adding
+pub mod Refused
 pub mod ProductLemmas
 pub mod CoveringLemmas
 pub mod ShapeLemmas

@@ -1,6 +1,6 @@
 -- Edges that meet demands, one after the other.
-use Rattle.std.proofs.Common.{◌≡◌, ◌⊎◌, inl, inr, ◌+◌, ℕ, Bool, true, false, List, [], ◌∷◌, ◌++◌, refl, sym}
-use Rattle.std.proofs.Common.{ap, subst, ◌∙◌, arith}
+use Rattle.std.proofs.Common.{◌≡◌, ◌⊎◌, inl, inr, ◌<◌, ◌+◌, ℕ, Bool, true, false, List, [], ◌∷◌, ◌++◌, length, refl}
+use Rattle.std.proofs.Common.{sym, ap, subst, ◌∙◌, arith}
 use Rattle.std.specs.Prelude.{Contains, IsTrue, slice_index}
 use Rattle.std.proofs.lemmas.Bool.{false≢true}
 use Rattle.std.proofs.lemmas.List.Elements.{Contains-append_left, Contains-push, Contains-push_cases}
@@ -19,10 +19,14 @@ use Rattle.omega_ltl_shapes.specs.declared.term.Term.{Term}
 use Rattle.omega_ltl_shapes.proofs.BitLemmas.{none_in_zero}
 use Rattle.omega_ltl_shapes.proofs.Combining.{says_or_not}
 use Rattle.omega_ltl_shapes.proofs.Covering.{combination_more, covers_more, folds}
-use Rattle.omega_ltl_terms.specs.Adding.{AddsOnly, HasGood, Keeps}
+use Rattle.omega_ltl_terms.specs.Adding.{AddsMinimal, HasGood, HasManyTerms, HasRoom}
+use Rattle.omega_ltl_terms.specs.Limits.{most_terms}
+use Rattle.omega_ltl_terms.specs.Meeting.{AreMet, IsStateTooLarge, IsWaiting, LacksSet, Meets, many_edge_terms}
+use Rattle.omega_ltl_terms.specs.Meeting.{met_goal, met_stays, met_waits, met_weak, no_set, none_met, one_more_met}
 use Rattle.omega_ltl_terms.specs.Products.{AddsCombination}
-use Rattle.omega_ltl_terms.specs.private.Meeting.{AddsMet, AreMeeting, IsWaiting, Meets, MeetsAll}
-use Rattle.omega_ltl_terms.proofs.Adding.{has_good_kept, keeps_front, keeps_last, keeps_more}
+use Rattle.omega_ltl_terms.specs.Ways.{nothing}
+use Rattle.omega_ltl_terms.specs.private.Meeting.{AddsMet, AreAllMet, AreMeeting, MeetsAll, MeetsBesideOne}
+use Rattle.omega_ltl_terms.proofs.Adding.{has_good_kept, keeps_more}
 use Rattle.omega_ltl_terms.proofs.Within.{has_good_within, within_itself, within_more}
 
 module _ (shapes : List Shape) (grounded : AreGrounded shapes) (strongs : List ℕ) where
@@ -36,15 +40,16 @@ module _ (shapes : List Shape) (grounded : AreGrounded shapes) (strongs : List �
   }
 
   -- an edge that meets a demand stays
-  pub met_itself : (d : ℕ) (edge copy : Term) (old new : List Term) → copy ≡ edge → Meets shapes strongs d edge → Keeps (old ++ copy ∷ []) new
-      → AddsOnly (λ added. added ≡ copy) old new → AddsMet shapes strongs edge d old new
-  met_itself d edge copy old new is m keeps only = record {
-    keeps = keeps_front old new copy keeps;
-    only = λ t h. elim (only t h) [
+  pub met_itself : (d : ℕ) (edge copy : Term) (old new : List Term) → copy ≡ edge → Meets shapes strongs d edge → AddsMinimal copy old new
+      → AddsMet shapes strongs edge d old new
+  met_itself d edge copy old new is m a = record {
+    keeps = a.keeps;
+    only = λ t h. elim (a.only t h) [
       | inl there ↦ inl there
       | inr same ↦ inr (subst (λ (u : Term). IsWithin edge u × Meets shapes strongs d u) (sym (same ∙ is)) (within_itself edge, m))
     ];
-    good = λ v i one true_now. has_good_within strongs v i new copy (keeps_last old new copy keeps) (subst (λ (t : Term). IsGood strongs v i t) (sym is) one);
+    ways = λ t h. elim (a.only t h) [ inl there ↦ inl there | inr same ↦ inr (met_stays m (same ∙ is)) ];
+    good = λ room v i one true_now. has_good_within strongs v i new copy (a.added room) (subst (λ (t : Term). IsGood strongs v i t) (sym is) one);
   }
 
   pub met_weakly : (d : ℕ) (edge : Term) (old new : List Term) → (IsStrong shapes d → ⊥) → AddsCombination shapes edge (Same d) old new
@@ -55,7 +60,8 @@ module _ (shapes : List Shape) (grounded : AreGrounded shapes) (strongs : List �
       | inl there ↦ inl there
       | inr added ↦ inr (added.0, record { covers = added.1; postponed = λ strong. absurd (weak strong) })
     ];
-    good = λ v i one true_now. a.good strongs v i one true_now;
+    ways = λ t h. elim (a.ways t h) [ inl there ↦ inl there | inr added ↦ inr (met_weak weak added) ];
+    good = λ room v i one true_now. a.good room strongs v i one true_now;
   }
 
   module _ (d : ℕ) (goal keep : Combination) (strong : Bool) (shape : shape_at shapes d ≡ Fix goal keep strong) where
@@ -121,37 +127,69 @@ module _ (shapes : List Shape) (grounded : AreGrounded shapes) (strongs : List �
           ]
           | inr added ↦ inr (within_more edge wait t edge_within added.0, meets_waiting t added.0 added.1)
         ];
-        good = λ v i one true_now. good v i one true_now (subst (Unfolds v.held (IsTrueAt v.truth) d i) shape (v.unfolds d i true_now)).0
+        ways = λ t h. elim (b.ways t h) [
+          | inl between ↦ elim (a.ways t between) [ inl there ↦ inl there | inr added ↦ inr (met_goal goal keep (shape ∙ ap (Fix goal keep) must) added) ]
+          | inr added ↦ inr (met_waits goal keep set wait (shape ∙ ap (Fix goal keep) must) of is added)
+        ];
+        good = λ room v i one true_now. good room v i one true_now (subst (Unfolds v.held (IsTrueAt v.truth) d i) shape (v.unfolds d i true_now)).0
             (says_or_not (literal_value (v.held i)) (λ e. v.truth e i) goal);
       }
         where
-          good : (v : Valuation shapes) (i : ℕ) → IsGood strongs v i edge → IsTrue (v.truth d i)
+          good : HasRoom new → (v : Valuation shapes) (i : ℕ) → IsGood strongs v i edge → IsTrue (v.truth d i)
               → SaysAt v.held (IsTrueAt v.truth) i goal ⊎ (SaysAt v.held (IsTrueAt v.truth) i keep × IsTrue (v.truth d (i + 1)))
               → SaysAt v.held (IsTrueAt v.truth) i goal ⊎ (SaysAt v.held (IsTrueAt v.truth) i goal → ⊥) → HasGood strongs v i new
-          good v i one true_now either (inl says) = has_good_kept strongs v i mid new b.keeps (a.good strongs v i one says)
-          good v i one true_now (inl says) (inr none) = absurd (none says)
-          good v i one true_now (inr kept) (inr none) = b.good strongs v i (good_waiting v i one true_now none kept.1) kept.0
+          good room v i one true_now either (inl says) = has_good_kept strongs v i mid new room b.keeps (a.good (b.keeps.roomy room) strongs v i one says)
+          good room v i one true_now (inl says) (inr none) = absurd (none says)
+          good room v i one true_now (inr kept) (inr none) = b.good room strongs v i (good_waiting v i one true_now none kept.1) kept.0
 
   -- edge by edge
   pub met_none : (d : ℕ) → MeetsAll shapes strongs d [] []
-  met_none d = record { only = λ t h. absurd (omega (arith, h.1)); good = λ v i has true_now. absurd (omega (arith, has.1.1)) }
+  met_none d = record {
+    room = omega arith;
+    apart = λ i j x less low. absurd (omega (arith, low));
+    only = λ t h. absurd (omega (arith, h.1));
+    ways = λ t h. absurd (omega (arith, h.1));
+    good = λ v i has true_now. absurd (omega (arith, has.1.1));
+  }
 
-  pub met_more : (d : ℕ) (xs : List Term) (edge : Term) (mid new : List Term) → MeetsAll shapes strongs d xs mid → AddsMet shapes strongs edge d mid new
+  -- beside one of the edges so far, or beside one edge more
+  ways_more : (d : ℕ) (xs : List Term) (edge : Term) (mid new : List Term) → MeetsAll shapes strongs d xs mid → AddsMet shapes strongs edge d mid new
+      → (added : Term) → Contains new added → MeetsBesideOne shapes strongs d (xs ++ edge ∷ []) added
+  ways_more d xs edge mid new a b t h = elim (b.ways t h) [
+    | inl there ↦ (let old = a.ways t there in (old.0, Contains-append_left xs (edge ∷ []) old.0 old.1, old.2))
+    | inr added ↦ (edge, Contains-push xs edge, added)
+  ]
+
+  pub met_more : (d : ℕ) (xs : List Term) (edge : Term) (mid new : List Term) → HasRoom new → MeetsAll shapes strongs d xs mid → AddsMet shapes strongs edge d mid new
       → MeetsAll shapes strongs d (xs ++ edge ∷ []) new
-  met_more d xs edge mid new a b = record {
+  met_more d xs edge mid new room a b = record {
+    room = room;
+    apart = b.keeps.apart a.apart;
     only = λ t h. elim (b.only t h) [
       | inl there ↦ (let old = a.only t there in ((old.0.0, Contains-append_left xs (edge ∷ []) old.0.0 old.0.1, old.0.2), old.1))
       | inr added ↦ ((edge, Contains-push xs edge, added.0), added.1)
     ];
+    ways = ways_more d xs edge mid new a b;
     good = λ v i has true_now. elim (Contains-push_cases xs edge has.0 has.1) [
-      | inl before ↦ has_good_kept strongs v i mid new b.keeps (a.good v i (has.0, before, has.2) true_now)
-      | inr same ↦ b.good v i (subst (λ (t : Term). IsGood strongs v i t) (sym same) has.2) true_now
+      | inl before ↦ has_good_kept strongs v i mid new room b.keeps (a.good v i (has.0, before, has.2) true_now)
+      | inr same ↦ b.good room v i (subst (λ (t : Term). IsGood strongs v i t) (sym same) has.2) true_now
     ];
+  }
+
+  -- over the limit
+  pub met_too_many : (d : ℕ) (xs ys : List Term) (edge : Term) (mid new : List Term) → ((t : Term) → Contains (xs ++ edge ∷ []) t → Contains ys t) → most_terms < length new
+      → MeetsAll shapes strongs d xs mid → AddsMet shapes strongs edge d mid new → HasManyTerms (MeetsBesideOne shapes strongs d ys)
+  met_too_many d xs ys edge mid new some many a b = record {
+    terms = new;
+    apart = b.keeps.apart a.apart;
+    each = λ t h. (let one = ways_more d xs edge mid new a b t h in (one.0, some one.0 one.1, one.2));
+    many = many;
   }
 
   -- demand by demand
   pub meeting_none : (empty : Term) → empty.cube ≡ no_literals → empty.next ≡ [] → empty.late ≡ 0 → AreMeeting shapes strongs [] (empty ∷ [])
   meeting_none empty cube next late = record {
+    room = omega arith;
     meet = λ edge h d none. absurd (omega (arith, none.1));
     good = λ v i all. (
       empty,
@@ -179,6 +217,7 @@ module _ (shapes : List Shape) (grounded : AreGrounded shapes) (strongs : List �
   pub meeting_more : (xs : List ℕ) (d : ℕ) (edges new : List Term) → AreMeeting shapes strongs xs edges → MeetsAll shapes strongs d edges new
       → AreMeeting shapes strongs (xs ++ d ∷ []) new
   meeting_more xs d edges new a b = record {
+    room = b.room;
     meet = λ edge h e asked. let from = b.only edge h in elim (Contains-push_cases xs d e asked) [
       | inl before ↦ meets_more e from.0.0 edge from.0.2 (a.meet from.0.0 from.0.1 e before)
       | inr same ↦ subst (λ (n : ℕ). Meets shapes strongs n edge) same from.1
@@ -189,6 +228,40 @@ module _ (shapes : List Shape) (grounded : AreGrounded shapes) (strongs : List �
   pub meeting_same : (xs ys : List ℕ) (edges : List Term) → ((d : ℕ) → Contains xs d → Contains ys d) → ((d : ℕ) → Contains ys d → Contains xs d)
       → AreMeeting shapes strongs xs edges → AreMeeting shapes strongs ys edges
   meeting_same xs ys edges there back a = record {
+    room = a.room;
     meet = λ edge h d asked. a.meet edge h d (back d asked);
     good = λ v i all. a.good v i (λ d h. all d (there d h));
   }
+
+  -- the edges of which one demand more is met
+  pub all_met_none : (empty : Term) → empty ≡ nothing → AreAllMet shapes strongs [] (empty ∷ [])
+  all_met_none empty is edge h = elim (Contains-push_cases [] empty edge h) [
+    | inl none ↦ absurd (omega (arith, none.1))
+    | inr same ↦ subst (AreMet shapes strongs []) (sym is ∙ same) none_met
+  ]
+
+  beside_met : (xs : List ℕ) (d : ℕ) (edges : List Term) → AreAllMet shapes strongs xs edges → (edge : Term) → MeetsBesideOne shapes strongs d edges edge
+      → AreMet shapes strongs (xs ++ d ∷ []) edge
+  beside_met xs d edges a edge from = one_more_met xs d from.0 edge (a from.0 from.1) from.2
+
+  pub all_met_more : (xs : List ℕ) (d : ℕ) (edges new : List Term) → AreAllMet shapes strongs xs edges → MeetsAll shapes strongs d edges new
+      → AreAllMet shapes strongs (xs ++ d ∷ []) new
+  all_met_more xs d edges new a b edge h = beside_met xs d edges a edge (b.ways edge h)
+
+  -- why a demand more cannot be met
+  pub too_large : (xs : List ℕ) (d : ℕ) (ys : List ℕ) (edges : List Term) → ((e : ℕ) → Contains (xs ++ d ∷ []) e → Contains ys e) → AreAllMet shapes strongs xs edges
+      → LacksSet shapes strongs d ⊎ HasManyTerms (MeetsBesideOne shapes strongs d edges) → IsStateTooLarge shapes strongs ys
+  too_large xs d ys edges some a why = elim why [
+    | inl lacks ↦ no_set d (some d (Contains-push xs d)) lacks
+    | inr many ↦ many_edge_terms (record {
+      demands = xs ++ d ∷ [];
+      of_state = some;
+      terms = record { terms = many.terms; apart = many.apart; each = λ t h. beside_met xs d edges a t (many.each t h); many = many.many };
+    })
+  ]
+
+  pub too_large_same : (xs ys : List ℕ) → ((d : ℕ) → Contains xs d → Contains ys d) → IsStateTooLarge shapes strongs xs → IsStateTooLarge shapes strongs ys
+  too_large_same xs ys there why = elim why [
+    | many_edge_terms has ↦ many_edge_terms (record { demands = has.demands; of_state = λ d h. there d (has.of_state d h); terms = has.terms })
+    | no_set d h lacks ↦ no_set d (there d h) lacks
+  ]

@@ -1,8 +1,9 @@
 -- Closing demands: their conjunctions are taken apart, and what they say of now in any case stands beside them.
 use Rattle.std.specs.Prelude.{◌<◌, ℕ, ◌==◌, ◌||◌, Bool, true, false, if◌then◌else◌, List, [], ◌∷◌, length}
-use Rattle.std.specs.Prelude.{Contains}
+use Rattle.std.specs.Prelude.{◌↔◌, AllPairs, Contains, IsTrue}
 use Rattle.omega_ltl_shapes.specs.Demands.{AreTrue, Valuation}
 use Rattle.omega_ltl_shapes.specs.Graphs.{IsClosedBy}
+use Rattle.omega_ltl_shapes.specs.Shapes.{shape_at}
 use Rattle.omega_ltl_shapes.specs.declared.combination.Combination.{Combination}
 use Rattle.omega_ltl_shapes.specs.declared.combination.Combination.TheVariants.{Both, Cases, Constant}
 use Rattle.omega_ltl_shapes.specs.declared.combination.Combination.TheVariants.{Either, Literal, Same}
@@ -67,6 +68,18 @@ is_false (Now (Either d e)) = false
 is_false (Now (Cases a b c d)) = false
 is_false (Next d) = false
 is_false (Fix goal keep strong) = false
+
+-- a demand is a part of some demands: one of them, or a part of such a part
+pub data IsPart (shapes : List Shape) (demands : List ℕ) : ℕ → Type 0 where
+  given_part : (d : ℕ) → Contains demands d → IsPart shapes demands d
+  part_of_part : (d e : ℕ) → IsPart shapes demands d → Contains (parts_of (shape_at shapes d)) e
+      → IsPart shapes demands e
+
+-- the closed set of some demands: those of their parts that stay, in ascending order
+pub record IsClosedSet (shapes : List Shape) (demands closed : List ℕ) : Type 0 where
+  pub exact : (d : ℕ) → Contains closed d
+      ↔ (IsPart shapes demands d × IsTrue (stays_closed (shape_at shapes d)))
+  pub ascending : AllPairs (λ one other. one < other) closed
 
 -- demands close others: they cover what these cover, keep the strong ones, and are true wherever these are
 pub record Closes (shapes : List Shape) (demands closed : List ℕ) : Type 0 where

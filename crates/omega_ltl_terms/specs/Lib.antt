@@ -1,7 +1,10 @@
 -- The edges of a state by the terms of its demands: what contracts cite.
 pub mod Limits
 pub mod Adding
+pub mod Ways
 pub mod Products
 pub mod Tables
+pub mod Meeting
+pub mod Needed
 pub mod Closing
 pub mod private

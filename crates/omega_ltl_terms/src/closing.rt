@@ -1,10 +1,11 @@
 //! Closed sets of demands.
 
 ghost use Rattle.std.specs.Prelude.{◌≡◌, ◌↔◌, ◌<◌, ◌≤◌, [], ◌∷◌, ℕ, length, Contains, IsTrue, OnOk};
-ghost use Rattle.std.specs.Prelude.{IfNone, IfOk, IfSome, IsOkUnless};
+ghost use Rattle.std.specs.Prelude.{AllPairs, IfNone, IfOk, IfSome, IsOkUnless};
 ghost use Rattle.std.specs.Bool.{OnFalse, OnTrue};
 ghost use Rattle.omega_ltl_shapes.specs.Shapes.{AreGrounded};
-ghost use Rattle.omega_ltl_terms.specs.Closing.{AreNeverTrue, Closes, brings, combination_parts, is_false};
+ghost use Rattle.omega_ltl_terms.specs.Closing.{AreNeverTrue, Closes, IsClosedSet, brings};
+ghost use Rattle.omega_ltl_terms.specs.Closing.{combination_parts, is_false};
 ghost use Rattle.omega_ltl_terms.specs.Closing.{kept_part, parts_of, stays_closed};
 ghost use Rattle.omega_ltl_terms.specs.private.Marking.{AddsStayed, AreParted, AreStayed, MarkedAreNeverTrue};
 ghost use Rattle.omega_ltl_terms.specs.private.Marking.{MarksMore, MarksTrue};
@@ -26,6 +27,7 @@ pub(crate) fn closed(
     requires grounded { AreGrounded shapes.now }
     requires few { length shapes.now ≤ 8192 }
     ensures closes { IfOk result (λ found. IfSome found (Closes shapes.now demands.now)) }
+    ensures exact { IfOk result (λ found. IfSome found (IsClosedSet shapes.now demands.now)) }
     ensures none { IfOk result (λ found. IfNone found (AreNeverTrue shapes.now demands.now)) }
     ensures memory { IsOkUnless result Refusal.Memory }
 {
@@ -53,7 +55,7 @@ fn are_below(demands: &[u32], count: usize) -> bool
 }
 
 /// Marks some demands.
-fn mark_all(demands: &[u32], marked: &mut [bool])
+pub(crate) fn mark_all(demands: &[u32], marked: &mut [bool])
     requires { (d : ℕ) → Contains demands.now d → d < length marked.old }
     ensures { MarksMore demands.now marked.old marked.new }
 {
@@ -63,7 +65,7 @@ fn mark_all(demands: &[u32], marked: &mut [bool])
 }
 
 /// Marks a demand.
-fn mark(d: u32, marked: &mut [bool])
+pub(crate) fn mark(d: u32, marked: &mut [bool])
     requires { d < length marked.old }
     ensures { MarksMore (d ∷ []) marked.old marked.new }
 {
@@ -176,6 +178,7 @@ fn stays(shape: Shape) -> bool
 fn stayed(alloc: Global, shapes: &[Shape], marked: &[bool]) -> Result<Numbers, Refusal>
     requires few { length shapes.now ≤ 8192 }
     ensures stayed { IfOk result (AreStayed shapes.now marked.now) }
+    ensures ascending { IfOk result (λ items. AllPairs (λ one other. one < other) items) }
     ensures memory { IsOkUnless result Refusal.Memory }
 {
     let mut items = Numbers::new();

@@ -1,15 +1,18 @@
 //! Edges that meet the demands of a state, one demand after the other.
 
-ghost use Rattle.std.specs.Prelude.{◌≡◌, ◌<◌, ◌≤◌, ◌+◌, true, length, IfErr, IfOk, IfSome, IsTrue, OnOk};
+ghost use Rattle.std.specs.Prelude.{◌≡◌, ◌<◌, ◌≤◌, ◌+◌, ◌⊎◌, true, ℕ, length, IfErr, IfNone, IfOk, IfSome};
+ghost use Rattle.std.specs.Prelude.{IsOkUnless, IsTrue, OnOk};
 ghost use Rattle.omega_ltl_shapes.specs.Covers.{Covers};
 ghost use Rattle.omega_ltl_shapes.specs.Graphs.{IsSetOf, IsStrong};
 ghost use Rattle.omega_ltl_shapes.specs.Shapes.{shape_at};
 ghost use Rattle.omega_ltl_shapes.specs.declared.shape.Shape.TheVariants.{Fix};
-ghost use Rattle.omega_ltl_terms.specs.Adding.{IsLarge};
+ghost use Rattle.omega_ltl_terms.specs.Adding.{HasManyTerms, IsLargeBy};
+ghost use Rattle.omega_ltl_terms.specs.Meeting.{IsWaiting, LacksSet};
 ghost use Rattle.omega_ltl_terms.specs.Tables.{AreCovered, AreTables};
-ghost use Rattle.omega_ltl_terms.specs.private.Meeting.{AddsMet, IsWaiting, MeetsAll};
+ghost use Rattle.omega_ltl_terms.specs.private.Meeting.{AddsMet, MeetsAll, MeetsBesideOne};
 
 use crate::covering::{cover, shape_at, value_at, value_of};
+use crate::limits::MOST_TERMS;
 use crate::products::push_products;
 use crate::pushing::push_minimal;
 use crate::tables::Tables;
@@ -29,17 +32,22 @@ pub(crate) fn meet(
     requires below { d < length tables.now.shapes }
     ensures ok { IfOk result
         (λ met. MeetsAll tables.now.shapes tables.now.strongs d edges.now met.items) }
-    ensures err { IfErr result IsLarge }
+    ensures refused { IfErr result (IsLargeBy (LacksSet tables.now.shapes tables.now.strongs d
+        ⊎ HasManyTerms (MeetsBesideOne tables.now.shapes tables.now.strongs d edges.now))) }
 {
     let mut kept = Vec::new(alloc);
     let mut covered = Vec::new(alloc);
     for edge in edges {
         push_met(alloc, tables, edge, d, &mut covered, &mut kept)?;
+        if kept.len() > MOST_TERMS {
+            return Err(Refusal::Task(TaskFault::TooLarge));
+        }
     }
     Ok(kept)
 }
 
-/// Appends to `kept` what `edge` fixes together with what meets the demand `d`. Fails as [`meet`] does.
+/// Appends to `kept` what `edge` fixes together with what meets the demand `d`. Fails with [TaskFault::TooLarge] if the
+/// demand is strong and has no set. Stops if over [MOST_TERMS] are there.
 fn push_met(
     alloc: Global,
     tables: &Tables,
@@ -52,7 +60,7 @@ fn push_met(
     requires below { d < length tables.now.shapes }
     ensures ok { OnOk result (AddsMet tables.now.shapes tables.now.strongs edge.now d
         kept.old.items kept.new.items) }
-    ensures err { IfErr result IsLarge }
+    ensures refused { IfErr result (IsLargeBy (LacksSet tables.now.shapes tables.now.strongs d)) }
 {
     let shapes = tables.shapes.as_slice();
     cover(shapes, edge.cube, edge.next.as_slice(), d + 1, covered)?;
@@ -75,7 +83,7 @@ fn push_met(
 }
 
 /// Appends to `kept` what `edge` fixes together with what meets the demand `d`, which is not strong; `covered` says
-/// whether the edge covers it. Fails as [`meet`] does.
+/// whether the edge covers it. Stops as [`push_met`] does.
 fn push_weak(
     alloc: Global,
     tables: &Tables,
@@ -90,7 +98,7 @@ fn push_weak(
     requires covered { IsTrue covered → Covers tables.now.shapes edge.now.cube edge.now.next d }
     ensures ok { OnOk result (AddsMet tables.now.shapes tables.now.strongs edge.now d
         kept.old.items kept.new.items) }
-    ensures err { IfErr result IsLarge }
+    ensures memory { IsOkUnless result Refusal.Memory }
 {
     if covered {
         let same = edge.copy(alloc)?;
@@ -106,7 +114,7 @@ fn push_weak(
 }
 
 /// Appends to `kept` what `edge` fixes together with what meets the strong demand `d`: its goal, or `keep` and the
-/// demand itself at the next index, late. Fails as [`meet`] does.
+/// demand itself at the next index, late. Fails as [`push_met`] does.
 fn push_strong(
     alloc: Global,
     tables: &Tables,
@@ -123,7 +131,7 @@ fn push_strong(
     requires covered { AreCovered tables.now.shapes edge.now.cube edge.now.next (d + 1) covered.now }
     ensures ok { OnOk result (AddsMet tables.now.shapes tables.now.strongs edge.now d
         kept.old.items kept.new.items) }
-    ensures err { IfErr result IsLarge }
+    ensures refused { IfErr result (IsLargeBy (LacksSet tables.now.shapes tables.now.strongs d)) }
 {
     if value_of(goal, edge.cube, covered) {
         let same = edge.copy(alloc)?;
@@ -136,7 +144,7 @@ fn push_strong(
 }
 
 /// Appends to `kept` what `edge` fixes together with the goal of the strong demand `d` of the set `set`, or with `keep`
-/// and the demand at the next index. Fails as [`meet`] does.
+/// and the demand at the next index. Stops as [`push_met`] does.
 fn push_waiting(
     alloc: Global,
     tables: &Tables,
@@ -153,7 +161,7 @@ fn push_waiting(
     requires set { IsSetOf tables.now.strongs set d }
     ensures ok { OnOk result (AddsMet tables.now.shapes tables.now.strongs edge.now d
         kept.old.items kept.new.items) }
-    ensures err { IfErr result IsLarge }
+    ensures memory { IsOkUnless result Refusal.Memory }
 {
     push_products(alloc, edge, goal, tables.terms.as_slice(), kept)?;
     let later = waiting(alloc, edge, d, set)?;
@@ -163,11 +171,12 @@ fn push_waiting(
 /// Returns the set of the strong demand `d`, or none if it has none.
 fn set_of(strongs: &[u32], d: u32) -> Option<u32>
     requires { length strongs.now ≤ 64 }
-    ensures { IfSome result (λ set. IsSetOf strongs.now set d) }
+    ensures some { IfSome result (λ set. IsSetOf strongs.now set d) }
+    ensures none { IfNone result ((set : ℕ) → IsSetOf strongs.now set d → ⊥) }
 {
-    for (set, strong) in strongs.iter().enumerate() {
-        if *strong == d {
-            return Some(set as u32);
+    for set in 0..strongs.len() as u32 {
+        if strongs[set as usize] == d {
+            return Some(set);
         }
     }
     None

@@ -1,20 +1,20 @@
 //! Terms of combinations.
 
-ghost use Rattle.std.specs.Prelude.{◌≡◌, ◌<◌, [], ◌∷◌, List, length, IfErr, OnOk};
+ghost use Rattle.std.specs.Prelude.{◌≡◌, ◌<◌, [], ◌∷◌, List, length, IsOkUnless, OnOk};
 ghost use Rattle.omega_ltl_shapes.specs.Combinations.{SpeaksBelow};
 ghost use Rattle.omega_ltl_shapes.specs.declared.combination.Combination.TheVariants.{Constant, Literal};
 ghost use Rattle.omega_ltl_shapes.specs.declared.shape.Shape.{Shape};
-ghost use Rattle.omega_ltl_terms.specs.Adding.{IsLarge};
 ghost use Rattle.omega_ltl_terms.specs.Products.{AddsCombination, AddsJoins, AddsPairs, AreTerms};
 ghost use Rattle.omega_ltl_terms.specs.Products.{terms_at};
 
+use crate::limits::MOST_TERMS;
 use crate::pushing::push_minimal;
 use omega_ltl_shapes::{Combination, Cube, Term};
 use omega_text::{Numbers, Refusal, Seq};
 use std::alloc::Global;
 
 /// Appends to `kept` the terms that fix what `with` fixes and what `combination` says, by the terms of its demands.
-/// Fails with [TaskFault::TooLarge] if too many are there.
+/// Stops if over [MOST_TERMS] are there.
 pub(crate) fn push_products(
     alloc: Global,
     with: &Term,
@@ -25,7 +25,7 @@ pub(crate) fn push_products(
     requires { SpeaksBelow (length terms.now) combination }
     ensures ok { OnOk result ((shapes : List Shape) → AreTerms shapes terms.now
         → AddsCombination shapes with.now combination kept.old.items kept.new.items) }
-    ensures err { IfErr result IsLarge }
+    ensures memory { IsOkUnless result Refusal.Memory }
 {
     match combination {
         Combination::Constant(value) => push_if(alloc, with, value, kept),
@@ -61,7 +61,7 @@ pub(crate) fn terms_at(terms: &[Seq<Term>], d: u32) -> &[Term]
 fn push_if(alloc: Global, with: &Term, value: bool, kept: &mut Vec<Term>) -> Result<(), Refusal>
     ensures ok { OnOk result ((shapes : List Shape)
         → AddsCombination shapes with.now (Constant value) kept.old.items kept.new.items) }
-    ensures err { IfErr result IsLarge }
+    ensures memory { IsOkUnless result Refusal.Memory }
 {
     if !value {
         return Ok(());
@@ -81,7 +81,7 @@ fn push_literal(
     requires { name < 64 }
     ensures ok { OnOk result ((shapes : List Shape)
         → AddsCombination shapes with.now (Literal name negated) kept.old.items kept.new.items) }
-    ensures err { IfErr result IsLarge }
+    ensures memory { IsOkUnless result Refusal.Memory }
 {
     let literal = Cube::of_literal(name, negated);
     match with.cube.join(literal) {
@@ -100,7 +100,8 @@ fn push_literal(
     }
 }
 
-/// Appends to `kept` what `with` fixes together with each of `terms` that it does not contradict.
+/// Appends to `kept` what `with` fixes together with each of `terms` that it does not contradict. Stops if over
+/// [MOST_TERMS] are there.
 fn push_joins(
     alloc: Global,
     with: &Term,
@@ -108,9 +109,12 @@ fn push_joins(
     kept: &mut Vec<Term>,
 ) -> Result<(), Refusal>
     ensures ok { OnOk result (AddsJoins with.now terms.now kept.old.items kept.new.items) }
-    ensures err { IfErr result IsLarge }
+    ensures memory { IsOkUnless result Refusal.Memory }
 {
     for term in terms {
+        if kept.len() > MOST_TERMS {
+            return Ok(());
+        }
         push_join(alloc, with, term, kept)?;
     }
     Ok(())
@@ -119,7 +123,7 @@ fn push_joins(
 /// Appends to `kept` what `with` and `term` fix together, if they do not contradict each other.
 fn push_join(alloc: Global, with: &Term, term: &Term, kept: &mut Vec<Term>) -> Result<(), Refusal>
     ensures ok { OnOk result (AddsJoins with.now (term.now ∷ []) kept.old.items kept.new.items) }
-    ensures err { IfErr result IsLarge }
+    ensures memory { IsOkUnless result Refusal.Memory }
 {
     let found = with.join(alloc, term)?;
     match found {
@@ -128,7 +132,8 @@ fn push_join(alloc: Global, with: &Term, term: &Term, kept: &mut Vec<Term>) -> R
     }
 }
 
-/// Appends to `kept` what `with` fixes together with one of `firsts` and one of `seconds`.
+/// Appends to `kept` what `with` fixes together with one of `firsts` and one of `seconds`. Stops if over [MOST_TERMS]
+/// are there.
 fn push_pairs(
     alloc: Global,
     with: &Term,
@@ -138,9 +143,12 @@ fn push_pairs(
 ) -> Result<(), Refusal>
     ensures ok { OnOk result
         (AddsPairs with.now firsts.now seconds.now kept.old.items kept.new.items) }
-    ensures err { IfErr result IsLarge }
+    ensures memory { IsOkUnless result Refusal.Memory }
 {
     for first in firsts {
+        if kept.len() > MOST_TERMS {
+            return Ok(());
+        }
         push_pairs_with(alloc, with, first, seconds, kept)?;
     }
     Ok(())
@@ -156,7 +164,7 @@ fn push_pairs_with(
 ) -> Result<(), Refusal>
     ensures ok { OnOk result
         (AddsPairs with.now (first.now ∷ []) seconds.now kept.old.items kept.new.items) }
-    ensures err { IfErr result IsLarge }
+    ensures memory { IsOkUnless result Refusal.Memory }
 {
     let found = with.join(alloc, first)?;
     match found {

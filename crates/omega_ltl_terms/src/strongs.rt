@@ -1,28 +1,44 @@
 //! The strong demands that have sets.
 
-ghost use Rattle.std.specs.Prelude.{◌≡◌, ◌<◌, ◌≤◌, ◌+◌, length, IfOk, IsOkUnless, OnOk};
-ghost use Rattle.omega_ltl_shapes.specs.Shapes.{is_strong};
+ghost use Rattle.std.specs.Prelude.{◌≡◌, ◌<◌, ◌≤◌, ◌+◌, [], ◌∷◌, ℕ, length, Contains, IfOk, IsOkUnless, OnOk};
+ghost use Rattle.omega_ltl_shapes.specs.Shapes.{AreGrounded, is_strong};
+ghost use Rattle.omega_ltl_terms.specs.Needed.{HaveSets, operands, spoken};
 ghost use Rattle.omega_ltl_terms.specs.Tables.{AreStrongs};
-ghost use Rattle.omega_ltl_terms.specs.private.Strongs.{AreStrongsBelow};
+ghost use Rattle.omega_ltl_terms.specs.private.Marking.{MarksMore};
+ghost use Rattle.omega_ltl_terms.specs.private.Strongs.{AreCollected, AreSpoken, MarksNeeded};
 
+use crate::closing::{mark, mark_all};
 use crate::covering::{shape_at, value_at};
 use crate::limits::MOST_SETS;
 use omega_ltl_shapes::{Combination, Shape};
 use omega_text::{Numbers, Refusal};
 use std::alloc::Global;
 
-/// Returns the strong demands that the demand `root` leads to, in ascending order, but not more than [MOST_SETS].
+/// Returns the strong demands that are needed for the demand `root`, in ascending order, but not more than
+/// [MOST_SETS].
 pub(crate) fn strongs_of(alloc: Global, shapes: &[Shape], root: u32) -> Result<Numbers, Refusal>
-    requires { length shapes.now ≤ 8192 }
+    requires grounded { AreGrounded shapes.now }
+    requires few { length shapes.now ≤ 8192 }
+    requires low { root < length shapes.now }
     ensures strongs { IfOk result (AreStrongs shapes.now) }
+    ensures sets { IfOk result (HaveSets shapes.now root) }
     ensures memory { IsOkUnless result Refusal.Memory }
 {
     let mut wanted = vec![in alloc; false; shapes.len()]?;
-    want(root, wanted.as_mut_slice());
-    want_operands(shapes, wanted.as_mut_slice());
+    mark_all(&[root], wanted.as_mut_slice());
+    mark_operands_of_all(shapes, wanted.as_mut_slice());
+    collected(alloc, shapes, wanted.as_slice())
+}
+
+/// Returns the strong demands that are wanted, in ascending order, but not more than [MOST_SETS].
+fn collected(alloc: Global, shapes: &[Shape], wanted: &[bool]) -> Result<Numbers, Refusal>
+    requires few { length shapes.now ≤ 8192 }
+    ensures collected { IfOk result (AreCollected shapes.now wanted.now (length shapes.now)) }
+    ensures memory { IsOkUnless result Refusal.Memory }
+{
     let mut strongs = Numbers::new();
     for d in 0..shapes.len() as u32 {
-        push_wanted(alloc, shapes, wanted.as_slice(), d, &mut strongs)?;
+        push_wanted(alloc, shapes, wanted, d, &mut strongs)?;
     }
     Ok(strongs)
 }
@@ -36,8 +52,8 @@ fn push_wanted(
     strongs: &mut Numbers,
 ) -> Result<(), Refusal>
     requires below { d < length shapes.now }
-    requires so_far { AreStrongsBelow shapes.now d strongs.old }
-    ensures ok { OnOk result (AreStrongsBelow shapes.now (d + 1) strongs.new) }
+    requires so_far { AreCollected shapes.now wanted.now d strongs.old }
+    ensures ok { OnOk result (AreCollected shapes.now wanted.now (d + 1) strongs.new) }
     ensures memory { IsOkUnless result Refusal.Memory }
 {
     if !value_at(wanted, d) {
@@ -63,63 +79,53 @@ fn is_strong(shape: Shape) -> bool
     }
 }
 
-/// Marks a demand as wanted, if there is one with this number.
-fn want(d: u32, wanted: &mut [bool])
-    ensures { length wanted.new ≡ length wanted.old }
+/// Marks the demands that marked ones speak of, and those that these speak of.
+fn mark_operands_of_all(shapes: &[Shape], marked: &mut [bool])
+    requires grounded { AreGrounded shapes.now }
+    requires few { length shapes.now ≤ 8192 }
+    requires long { length marked.old ≡ length shapes.now }
+    ensures marks { MarksNeeded shapes.now marked.old marked.new }
+    ensures spoken { AreSpoken shapes.now 0 marked.new }
 {
-    if (d as usize) < wanted.len() {
-        wanted[d as usize] = true;
-    }
-}
-
-/// Marks the demands that wanted ones speak of.
-fn want_operands(shapes: &[Shape], wanted: &mut [bool])
-    requires { length wanted.old ≡ length shapes.now }
-    ensures { length wanted.new ≡ length wanted.old }
-{
-    let mut d = shapes.len();
+    let mut d = shapes.len() as u32;
     while d > 0 {
         d -= 1;
-        if wanted[d] {
-            want_of_shape(shapes[d], wanted);
+        if value_at(marked, d) {
+            mark_operands(shape_at(shapes, d), marked);
         }
     }
 }
 
 /// Marks the demands that a shape speaks of.
-fn want_of_shape(shape: Shape, wanted: &mut [bool])
-    ensures { length wanted.new ≡ length wanted.old }
+fn mark_operands(shape: Shape, marked: &mut [bool])
+    requires { (d : ℕ) → Contains (operands shape) d → d < length marked.old }
+    ensures { MarksMore (operands shape) marked.old marked.new }
 {
     match shape {
-        Shape::Now(combination) => want_all(combination, wanted),
-        Shape::Next(d) => want(d, wanted),
+        Shape::Now(combination) => mark_spoken(combination, marked),
+        Shape::Next(d) => mark(d, marked),
         Shape::Fix {
             goal,
             keep,
             strong: _,
         } => {
-            want_all(goal, wanted);
-            want_all(keep, wanted);
+            mark_spoken(goal, marked);
+            mark_spoken(keep, marked);
         }
     }
 }
 
-/// Marks the demands of a combination.
-fn want_all(combination: Combination, wanted: &mut [bool])
-    ensures { length wanted.new ≡ length wanted.old }
+/// Marks the demands that a combination speaks of.
+fn mark_spoken(combination: Combination, marked: &mut [bool])
+    requires { (d : ℕ) → Contains (spoken combination) d → d < length marked.old }
+    ensures { MarksMore (spoken combination) marked.old marked.new }
 {
     match combination {
-        Combination::Constant(_) | Combination::Literal(_, _) => {}
-        Combination::Same(d) => want(d, wanted),
-        Combination::Both(d, e) | Combination::Either(d, e) => {
-            want(d, wanted);
-            want(e, wanted);
-        }
-        Combination::Cases(a, b, c, d) => {
-            want(a, wanted);
-            want(b, wanted);
-            want(c, wanted);
-            want(d, wanted);
-        }
+        Combination::Constant(_) => {}
+        Combination::Literal(_, _) => {}
+        Combination::Same(d) => mark(d, marked),
+        Combination::Both(d, e) => mark_all(&[d, e], marked),
+        Combination::Either(d, e) => mark_all(&[d, e], marked),
+        Combination::Cases(a, b, c, d) => mark_all(&[a, b, c, d], marked),
     }
 }

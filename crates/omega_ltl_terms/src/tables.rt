@@ -1,7 +1,8 @@
 ghost use Rattle.std.specs.Prelude.{◌*◌, IfErr, IfOk};
-ghost use Rattle.omega_ltl_shapes.specs.Shapes.{AreShapesOf};
-ghost use Rattle.omega_ltl_terms.specs.Adding.{IsLarge};
-ghost use Rattle.omega_ltl_terms.specs.Tables.{AreTables};
+ghost use Rattle.omega_ltl_shapes.specs.Shapes.{AreShapesOf, demand};
+ghost use Rattle.omega_ltl_terms.specs.Adding.{IsLargeBy};
+ghost use Rattle.omega_ltl_terms.specs.Needed.{HaveSets};
+ghost use Rattle.omega_ltl_terms.specs.Tables.{AreTables, HasLargeDemand};
 
 use crate::shapes::{demand, shapes_of};
 use crate::strongs::strongs_of;
@@ -39,7 +40,9 @@ impl Tables {
         ensures shapes { IfOk result
             (λ tables. AreShapesOf formula.now.table.nodes tables.shapes) }
         ensures tables { IfOk result AreTables }
-        ensures err { IfErr result IsLarge }
+        ensures sets { IfOk result
+            (λ tables. HaveSets tables.shapes (demand formula.now.root negated) tables.strongs) }
+        ensures refused { IfErr result (IsLargeBy (HasLargeDemand formula.now.table.nodes)) }
     {
         formula.keeps_limits();
         let shapes = shapes_of(alloc, formula)?;

@@ -1,19 +1,21 @@
 //! The terms of the demands of a formula.
 
-ghost use Rattle.std.specs.Prelude.{◌≡◌, ◌<◌, ◌≤◌, List, [], ◌∷◌, length, IfErr, IfOk};
-ghost use Rattle.omega_ltl_shapes.specs.Terms.{no_literals};
+ghost use Rattle.std.specs.Prelude.{◌≡◌, ◌<◌, ◌≤◌, List, ℕ, length, IfErr, IfOk, IsOkUnless};
 ghost use Rattle.omega_ltl_shapes.specs.Combinations.{SpeaksBelow};
 ghost use Rattle.omega_ltl_shapes.specs.Shapes.{AreGrounded, IsShapeBelow, shape_at};
 ghost use Rattle.omega_ltl_shapes.specs.declared.shape.Shape.TheVariants.{Fix, Next, Now};
 ghost use Rattle.omega_ltl_shapes.specs.declared.shape.Shape.{Shape};
-ghost use Rattle.omega_ltl_terms.specs.Adding.{IsLarge};
+ghost use Rattle.omega_ltl_terms.specs.Adding.{IsLargeBy};
+ghost use Rattle.omega_ltl_terms.specs.Meeting.{HasManyWays};
 ghost use Rattle.omega_ltl_terms.specs.Products.{AreTerms, AreTermsOf};
+ghost use Rattle.omega_ltl_terms.specs.Ways.{next_term};
 
 use crate::covering::shape_at;
+use crate::limits::MOST_TERMS;
 use crate::products::push_products;
 use crate::pushing::push_minimal;
 use omega_ltl_shapes::{Combination, Cube, Shape, Term};
-use omega_text::{Numbers, Refusal, Seq};
+use omega_text::{Numbers, Refusal, Seq, TaskFault};
 use std::alloc::Global;
 
 /// Returns the terms of all demands, by their numbers: parts first, so that those of smaller demands are there. Fails
@@ -23,19 +25,22 @@ pub(crate) fn terms_of_all(alloc: Global, shapes: &[Shape]) -> Result<Seq<Seq<Te
     requires few { length shapes.now ≤ 8192 }
     ensures count { IfOk result (λ all. length all ≡ length shapes.now) }
     ensures terms { IfOk result (AreTerms shapes.now) }
-    ensures err { IfErr result IsLarge }
+    ensures refused { IfErr result (IsLargeBy ((d : ℕ) × (d < length shapes.now) × HasManyWays shapes.now d)) }
 {
     let mut all = Vec::new(alloc);
     for d in 0..shapes.len() as u32 {
         let shape = shape_at(shapes, d);
         let terms = terms_of(alloc, shape, d, all.as_slice())?;
+        if terms.len() > MOST_TERMS {
+            return Err(Refusal::Task(TaskFault::TooLarge));
+        }
         all.push(terms)?;
     }
     Ok(Seq::from_vec(all))
 }
 
-/// Returns the terms of the demand `d` with a shape, by those of smaller demands. Fails with [TaskFault::TooLarge] if
-/// they are over [MOST_TERMS].
+/// Returns the terms of the demand `d` with a shape, by those of smaller demands. If they are over [MOST_TERMS], some
+/// are left out.
 fn terms_of(
     alloc: Global,
     shape: Shape,
@@ -46,7 +51,7 @@ fn terms_of(
     requires below { IsShapeBelow d shape }
     ensures terms { IfOk result (λ terms. (shapes : List Shape) → AreTerms shapes smaller.now
         → shape_at shapes d ≡ shape → AreTermsOf shapes d terms) }
-    ensures err { IfErr result IsLarge }
+    ensures memory { IsOkUnless result Refusal.Memory }
 {
     match shape {
         Shape::Now(combination) => terms_now(alloc, d, combination, smaller),
@@ -65,7 +70,7 @@ fn terms_now(
     requires { SpeaksBelow (length smaller.now) combination }
     ensures terms { IfOk result (λ terms. (shapes : List Shape) → AreTerms shapes smaller.now
         → shape_at shapes d ≡ Now combination → AreTermsOf shapes d terms) }
-    ensures err { IfErr result IsLarge }
+    ensures memory { IsOkUnless result Refusal.Memory }
 {
     let unit = Term::empty();
     let mut terms = Vec::new(alloc);
@@ -77,7 +82,7 @@ fn terms_now(
 fn terms_next(alloc: Global, d: u32, e: u32) -> Result<Seq<Term>, Refusal>
     ensures terms { IfOk result (λ terms. (shapes : List Shape) → AreGrounded shapes
         → shape_at shapes d ≡ Next e → AreTermsOf shapes d terms) }
-    ensures err { IfErr result IsLarge }
+    ensures memory { IsOkUnless result Refusal.Memory }
 {
     let later = next_term(e);
     let mut terms = Vec::new(alloc);
@@ -98,7 +103,7 @@ fn terms_fix(
     requires keep { SpeaksBelow (length smaller.now) keep }
     ensures terms { IfOk result (λ terms. (shapes : List Shape) → AreTerms shapes smaller.now
         → shape_at shapes d ≡ Fix goal keep strong → AreTermsOf shapes d terms) }
-    ensures err { IfErr result IsLarge }
+    ensures memory { IsOkUnless result Refusal.Memory }
 {
     let unit = Term::empty();
     let later = next_term(d);
@@ -110,9 +115,7 @@ fn terms_fix(
 
 /// Returns the term that fixes one demand on the next index.
 fn next_term(d: u32) -> Term
-    ensures cube { result.cube ≡ no_literals }
-    ensures next { result.next ≡ d ∷ [] }
-    ensures late { result.late ≡ 0 }
+    ensures { result ≡ next_term d }
 {
     Term {
         cube: Cube::empty(),

@@ -9,7 +9,7 @@ pub returns-then-covered-clause-ok : goal.returns-then-covered-clause-ok
 returns-then-covered-clause-ok c = on_ok_weaker c.push_minimal.result
     (λ added. met_itself c.args.tables.now.shapes c.requires.tables.terms.grounded c.args.tables.now.strongs c.args.d c.args.edge.now c.in_ok-same.same c.args.kept.now.items
     c.push_minimal.new.kept.items c.in_ok-same.ensures
-    (record { covers = c.requires.covered c.if-covered.true; postponed = λ strong. absurd (c.requires.weak strong) }) added.keeps added.only)
+    (record { covers = c.requires.covered c.if-covered.true; postponed = λ strong. absurd (c.requires.weak strong) }) added)
     c.push_minimal.ensures.ok
 
 pub returns-clause-ok : goal.returns-clause-ok

@@ -13,5 +13,5 @@ returns-then-not-value-clause-ok c shapes =
 pub returns-clause-ok : goal.returns-clause-ok
 returns-clause-ok c = on_ok_weaker c.push_minimal.result
     (λ added shapes. subst (λ (b : Bool). AddsCombination shapes c.args.with.now (Constant b) c.args.kept.now.items c.push_minimal.new.kept.items) (sym c.if-not-value.false)
-    (constant_added shapes c.args.with.now c.in_ok-same.same c.args.kept.now.items c.push_minimal.new.kept.items c.in_ok-same.ensures added.keeps added.only))
+    (constant_added shapes c.args.with.now c.in_ok-same.same c.args.kept.now.items c.push_minimal.new.kept.items c.in_ok-same.ensures added))
     c.push_minimal.ensures.ok

@@ -4,7 +4,7 @@ use Rattle.std.proofs.lemmas.List.{take_all}
 use Rattle.omega_ltl_shapes.specs.declared.term.Term.{Term}
 use Rattle.omega_ltl_shapes.proofs.ItemLemmas.{take_read}
 use Rattle.omega_ltl_terms.specs.Products.{AddsJoins}
-use Rattle.omega_ltl_terms.proofs.Adding.{joins_more, joins_none}
+use Rattle.omega_ltl_terms.proofs.Adding.{contains_taken, joins_full, joins_more, joins_none}
 use Rattle.omega_ltl_terms.proofs.products.push_joins.Goals as goal
 
 pub loop-term-init : goal.loop-term-init
@@ -25,3 +25,10 @@ returns-clause-ok c =
     let terms : List Term = c.args.terms.now in
     subst (λ (xs : List Term). AddsJoins c.args.with.now xs c.args.kept.now.items c.loop-term.kept.items) (take_all c.loop-term.term-index terms (omega arith))
     c.loop-term.invariant
+
+-- over the limit
+pub returns-then-len-gt-MOST_TERMS-clause-ok : goal.returns-then-len-gt-MOST_TERMS-clause-ok
+returns-then-len-gt-MOST_TERMS-clause-ok c =
+    let full : 4096 < length c.loop-term.kept.items = omega (arith, c.len.ensures) in
+    joins_full c.args.with.now (take c.loop-term.term-index c.args.terms.now) c.args.terms.now c.args.kept.now.items c.loop-term.kept.items
+    (λ t h. contains_taken c.args.terms.now c.loop-term.term-index t h) (λ room. omega (arith, room, full)) c.loop-term.invariant

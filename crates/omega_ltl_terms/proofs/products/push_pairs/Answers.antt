@@ -4,7 +4,7 @@ use Rattle.std.proofs.lemmas.List.{take_all}
 use Rattle.omega_ltl_shapes.specs.declared.term.Term.{Term}
 use Rattle.omega_ltl_shapes.proofs.ItemLemmas.{take_read}
 use Rattle.omega_ltl_terms.specs.Products.{AddsPairs}
-use Rattle.omega_ltl_terms.proofs.Adding.{pairs_more, pairs_none}
+use Rattle.omega_ltl_terms.proofs.Adding.{contains_taken, pairs_full, pairs_more, pairs_none}
 use Rattle.omega_ltl_terms.proofs.products.push_pairs.Goals as goal
 
 pub loop-first-init : goal.loop-first-init
@@ -26,3 +26,10 @@ returns-clause-ok c =
     let firsts : List Term = c.args.firsts.now in
     subst (λ (xs : List Term). AddsPairs c.args.with.now xs c.args.seconds.now c.args.kept.now.items c.loop-first.kept.items)
     (take_all c.loop-first.first-index firsts (omega arith)) c.loop-first.invariant
+
+-- over the limit
+pub returns-then-len-gt-MOST_TERMS-clause-ok : goal.returns-then-len-gt-MOST_TERMS-clause-ok
+returns-then-len-gt-MOST_TERMS-clause-ok c =
+    let full : 4096 < length c.loop-first.kept.items = omega (arith, c.len.ensures) in
+    pairs_full c.args.with.now (take c.loop-first.first-index c.args.firsts.now) c.args.firsts.now c.args.seconds.now c.args.kept.now.items c.loop-first.kept.items
+    (λ t h. contains_taken c.args.firsts.now c.loop-first.first-index t h) (λ room. omega (arith, room, full)) c.loop-first.invariant

@@ -7,4 +7,4 @@ decreases-loop-at l = length l.terms.items - l.at
 
 -- what was there is there, or is above the term
 abbrev pub invariant-loop-at : goal.invariant-loop-at
-invariant-loop-at l = DropsAbove l.term l.initial.terms.items l.terms.items
+invariant-loop-at l = DropsAbove l.term l.at l.initial.terms.items l.terms.items

@@ -7,7 +7,8 @@ use Rattle.omega_ltl_terms.proofs.terms.terms_fix.Goals as goal
 pub returns-clause-terms : goal.returns-clause-terms
 returns-clause-terms c shapes are is =
     subst (AreTermsOf shapes c.args.d) (sym c.from_vec.ensures)
-    (terms_fix shapes are.grounded c.args.d c.args.goal c.args.keep c.args.strong c.empty-unit.result c.next_term-later.result c.push_products.new.kept.items c.push_products-2.new.kept.items is
-    c.empty-unit.ensures.cube c.empty-unit.ensures.next c.empty-unit.ensures.late c.next_term-later.ensures.cube c.next_term-later.ensures.next c.next_term-later.ensures.late
+    (terms_fix shapes are.grounded c.args.d c.args.goal c.args.keep c.args.strong c.empty-unit.result c.push_products.new.kept.items c.push_products-2.new.kept.items is
+    c.empty-unit.ensures.cube c.empty-unit.ensures.next c.empty-unit.ensures.late
     (subst (λ (old : List Term). AddsCombination shapes c.empty-unit.result c.args.goal old c.push_products.new.kept.items) c.new-terms.ensures.items (c.in_ok-push_products.ensures.ok shapes are))
-    (c.in_ok-push_products-2.ensures.ok shapes are))
+    (subst (λ (term : Term). AddsCombination shapes term c.args.keep c.push_products.new.kept.items c.push_products-2.new.kept.items) c.next_term-later.ensures
+    (c.in_ok-push_products-2.ensures.ok shapes are)))

@@ -6,6 +6,7 @@ use Rattle.std.proofs.lemmas.Result.{IfOk-weaker, on_ok_weaker}
 use Rattle.omega_ltl_shapes.specs.Graphs.{AreEnough, AreRight}
 use Rattle.omega_ltl_shapes.specs.declared.term.Term.{Term}
 use Rattle.omega_ltl_translation.specs.private.Graphs.{AreNumbered, state_of}
+use Rattle.omega_ltl_terms.proofs.Refused.{large_by, passed_on}
 use Rattle.omega_ltl_translation.proofs.Growing.{adds_weaker}
 use Rattle.omega_ltl_translation.proofs.exploring.row_of.Goals as goal
 
@@ -43,3 +44,6 @@ returns-clause-adds c =
     (λ state given d h. (c.in_ok-terms.ensures.right given.0 (subst (λ (xs : List Term). Contains xs given.0) c.as_slice-2.ensures.value given.1)).below d
     (subst (λ (s : List ℕ). Contains s d) (sym given.2) h)) adds)
     c.numbered.ensures.adds
+
+pub returns-in_err-terms-clause-err : goal.returns-in_err-terms-clause-err
+returns-in_err-terms-clause-err c = passed_on c.from_residual.result _ _ c.from_residual.ensures.1 (large_by _ _ c.in_err-terms.ensures.refused)

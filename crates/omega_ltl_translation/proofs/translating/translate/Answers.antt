@@ -2,6 +2,7 @@
 use Rattle.std.proofs.Common.{◌≡◌, ◌<◌, ℕ, List, length, sym, subst}
 use Rattle.std.proofs.lemmas.Result.{IfOk-weaker}
 use Rattle.omega_ltl_shapes.specs.Shapes.{demand}
+use Rattle.omega_ltl_terms.proofs.Refused.{large_by, passed_on}
 use Rattle.omega_ltl_translation.specs.Translation.{HasHeader, given_name}
 use Rattle.omega_ltl_translation.specs.declared.graph.GraphEdge.{GraphEdge}
 use Rattle.omega_ltl_translation.specs.private.Automata.{IsAutomatonOf}
@@ -38,3 +39,6 @@ pub returns-clause-header : goal.returns-clause-header
 returns-clause-header c = IfOk-weaker c.automaton_of_graph.result _ _
     (λ a is. subst (λ (names : List (List ℕ)). HasHeader (given_name c.args.name.now) names a) c.names.ensures is)
     c.automaton_of_graph.ensures.header
+
+pub returns-in_err-tables-clause-refused : goal.returns-in_err-tables-clause-refused
+returns-in_err-tables-clause-refused c = passed_on c.from_residual.result _ _ c.from_residual.ensures.1 (large_by _ _ c.in_err-tables.ensures.refused)
