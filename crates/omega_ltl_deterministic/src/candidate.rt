@@ -2,7 +2,7 @@ ghost use Rattle.std.specs.Prelude.{IfErr, IfOk};
 ghost use Rattle.omega_ltl_determinization.specs.Refusing.{IsLarge};
 ghost use Rattle.omega_ltl_deterministic.specs.Candidate.{IsCandidate};
 
-use crate::completion::complete_automaton;
+use crate::completion::{REJECTING, complete_automaton};
 use crate::forming::automaton_over;
 use crate::leaves::leaves_of;
 use crate::parts::parts_of;
@@ -46,7 +46,7 @@ pub fn complete_candidate(alloc: Global, formula: &Formula) -> Result<Automaton,
     ensures err { IfErr result IsLarge }
 {
     let found = product_of_parts(alloc, formula)?;
-    let complete = complete_automaton(alloc, found)?;
+    let complete = complete_automaton(alloc, found, REJECTING)?;
     automaton_over(alloc, &complete, formula.names())
 }
 

@@ -8,37 +8,43 @@ use omega_ltl_determinization::{
 use omega_text::Refusal;
 use std::alloc::{AllocError, Global};
 
-/// The colour of the edges that lead to the sink: odd, so that a run that stays there is rejected.
-const REJECTING: u32 = 1;
+/// A colour of edges that accepts the words that see no lesser one again and again: it is even.
+pub(crate) const ACCEPTING: u32 = 0;
 
-/// Returns an automaton in which each state has an edge for each letter, and which is to accept the same words. If some
-/// letter has no edge, it has one state more, a sink that runs do not leave and that rejects them.
+/// A colour of edges that rejects the words that see no lesser one again and again: it is odd.
+pub(crate) const REJECTING: u32 = 1;
+
+/// Returns an automaton in which each state has an edge for each letter. If some letter has no edge, it has one state
+/// more, a sink that runs do not leave. The edges to it have the colour `colour`, [ACCEPTING] or [REJECTING]; if they
+/// reject, the same words are to be accepted.
 ///
 /// Fails with [`TaskFault::TooLarge`] if the sink is a state or a table of letters too many. Linear in the edges and
 /// their letters.
 pub(crate) fn complete_automaton(
     alloc: Global,
     automaton: DeterministicAutomaton,
+    colour: u32,
 ) -> Result<DeterministicAutomaton, Refusal>
     ensures { IfErr result IsLarge }
 {
     let names = automaton.names.min(MOST_NAMES);
     let all = all_letters(alloc, names)?;
     let mut builder = DeterministicBuilder::new(alloc, names);
-    let lacks = add_complete_states(alloc, &automaton, all.as_slice(), &mut builder)?;
+    let lacks = add_complete_states(alloc, &automaton, colour, all.as_slice(), &mut builder)?;
     if !lacks {
         return Ok(automaton);
     }
-    builder.add_edge(automaton.state_count(), REJECTING, all.as_slice())?;
+    builder.add_edge(automaton.state_count(), colour, all.as_slice())?;
     builder.end_state()?;
     builder.finish(names, automaton.start)
 }
 
-/// Adds the states of `automaton`, and where letters of `all` have no edge one that leads to the state after the last.
-/// Returns whether some letter had none.
+/// Adds the states of `automaton`, and where letters of `all` have no edge one of a colour that leads to the state
+/// after the last. Returns whether some letter had none.
 fn add_complete_states(
     alloc: Global,
     automaton: &DeterministicAutomaton,
+    colour: u32,
     all: &[u64],
     builder: &mut DeterministicBuilder,
 ) -> Result<bool, Refusal>
@@ -53,7 +59,7 @@ fn add_complete_states(
         }
         let left = letters_without_edge(alloc, automaton, state, all)?;
         if left.iter().any(|word| *word != 0) {
-            builder.add_edge(sink, REJECTING, left.as_slice())?;
+            builder.add_edge(sink, colour, left.as_slice())?;
             lacks = true;
         }
         builder.end_state()?;

@@ -30,7 +30,7 @@ pub(crate) fn is_candidate(automaton: &Automaton, propositions: &[ByteString]) -
 }
 
 /// Whether two lists of strings are the same.
-fn are_same(one: &[ByteString], other: &[ByteString]) -> bool
+pub(crate) fn are_same(one: &[ByteString], other: &[ByteString]) -> bool
     ensures { IsTrue result → one.now ≡ other.now }
 {
     one == other

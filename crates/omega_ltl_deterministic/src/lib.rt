@@ -3,6 +3,7 @@
 //!
 //! [deterministic_candidate] takes a formula apart into its maximal temporal parts, makes each of them deterministic,
 //! and puts them together again by their product. [complete_candidate] adds a sink where letters have no edge.
+//! [smaller_candidate] joins equal states of a winner's automaton.
 #![tactic(auto)]
 
 mod acceptance;
@@ -12,13 +13,17 @@ mod cubes;
 mod demand_graph;
 mod forming;
 mod judging;
+mod label_letters;
 mod labels;
 mod leaf_formula;
 mod leaves;
 mod limits;
+mod one_answer;
 mod parts;
+mod projection;
 mod question;
 mod questions;
+mod smaller;
 mod state_edges;
 mod words;
 
@@ -27,3 +32,4 @@ pub use limits::{MOST_CUBES, MOST_PARITY_SETS, candidate_limits_are_stated};
 pub use omega_hoa_automaton::Automaton;
 pub use omega_ltl_formula::Formula;
 pub use omega_text::Refusal;
+pub use smaller::smaller_candidate;
