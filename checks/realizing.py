@@ -1,8 +1,8 @@
 """What `realize -f` answers for formulas of linear temporal logic, and how `verify -f` judges controllers and
 counter-strategies for them, against games of counting on tableaux. 500 random formulas of one or two inputs and outputs
 are asked for the answer, for the winner's automaton, and for the game; the system's names are listed, or the
-environment's, or both. Each automaton that is written is judged letter by letter, and `yes` by the program; altered
-ones as a slow judge says, with the reason.
+environment's, or both. Each automaton that is written is judged letter by letter, and `yes` by the program, and no two
+of its states are equal. Altered ones are judged as a slow judge says, with the reason.
 
 Where the counts that are tried do not tell the winner, it is that of the game of the automaton that `ltl
 --deterministic` writes, which *exact* judges. For some formulas of one input and one output all strategies of two
@@ -116,6 +116,17 @@ def counter_fault(asked_of: Asked, automaton: Automaton) -> Fault:
     return "a word satisfies the formula" if is_wrong else None
 
 
+def equal_fault(automaton: Automaton) -> Fault:
+    """Which states of an automaton are equal, since they lead at the same letters to equal states, or nothing."""
+    steps = steps_of(automaton)
+    classes = dict.fromkeys(steps, 0)
+    for _ in steps:
+        led = {state: frozenset((letter, classes[target]) for letter, target in steps[state]) for state in steps}
+        numbers = {one: number for number, one in enumerate({*led.values()})}
+        classes = {state: numbers[led[state]] for state in steps}
+    return f"some states are equal: {classes}" if len({*classes.values()}) < len(classes) else None
+
+
 def sided(automaton: Automaton, outs: list[bytes]) -> Parted:
     """The automaton with its propositions parted by their names."""
     made = parted(automaton)
@@ -152,7 +163,7 @@ def written_fault(asked_of: Asked) -> Fault:
     fault = header_fault(asked_of, automaton, made)
     if canonical_automaton(automaton) != ran.stdout:
         fault = "it is not canonical"
-    fault = fault or (controller_fault if wins else counter_fault)(asked_of, automaton)
+    fault = fault or (controller_fault if wins else counter_fault)(asked_of, automaton) or equal_fault(automaton)
     fault = fault or judged_fault(asked_of, ran.stdout, [] if wins else [COUNTER], True)
     return fault and f"{fault}, of {ran.stdout!r}"
 
