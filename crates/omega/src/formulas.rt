@@ -41,7 +41,7 @@ pub extern "C" fn omega_ltl(
     out: &mut Text,
 ) -> TextOutcome
     ensures { IsTextOutcome (IsLtlAnswer formula.now (asks negated))
-        (IsOneRefused (IsLtlRefusal formula.now)) result out.old out.new }
+        (IsOneRefused (IsLtlRefusal formula.now (asks negated))) result out.old out.new }
 {
     match ltl_text(alloc, formula, asks(negated)) {
         Ok(output) => give(alloc, output, out),

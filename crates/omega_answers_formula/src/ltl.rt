@@ -1,6 +1,7 @@
 ghost use Rattle.std.specs.Prelude.{IfErr, IfOk};
 ghost use Rattle.omega_text.specs.Cases.{or_memory};
-ghost use Rattle.omega_ltl_terms.specs.Adding.{IsLarge};
+ghost use Rattle.omega_ltl_terms.specs.Adding.{IsLargeBy};
+ghost use Rattle.omega_ltl_translation.specs.PastLimits.{IsPastLimits};
 ghost use Rattle.omega_answers_formula.specs.Ltl.{IsAutomatonOf, IsLtlAnswer, IsLtlRefusal};
 
 use crate::title::title;
@@ -19,7 +20,7 @@ use std::alloc::Global;
 /// formula is over a limit, or else with [TaskFault::TooLarge] if the automaton is, as `translate` says.
 pub fn ltl_text(alloc: Global, text: &[u8], negated: bool) -> Result<Vec<u8>, Refusal>
     ensures answer { IfOk result (λ output. IsLtlAnswer text.now negated output.items) }
-    ensures refused { IfErr result (or_memory (IsLtlRefusal text.now)) }
+    ensures refused { IfErr result (or_memory (IsLtlRefusal text.now negated)) }
 {
     let formula = read_formula(alloc, text)?;
     automaton_text(alloc, &formula, negated)
@@ -28,7 +29,7 @@ pub fn ltl_text(alloc: Global, text: &[u8], negated: bool) -> Result<Vec<u8>, Re
 /// Returns the canonical text of the automaton of `formula`, or of its negation. Fails as `translate` does.
 fn automaton_text(alloc: Global, formula: &Formula, negated: bool) -> Result<Vec<u8>, Refusal>
     ensures text { IfOk result (λ output. IsAutomatonOf negated formula.now output.items) }
-    ensures refused { IfErr result IsLarge }
+    ensures refused { IfErr result (IsLargeBy (IsPastLimits formula.now negated)) }
 {
     let name = title(alloc, formula, negated)?;
     match translate(alloc, formula, negated, name.as_slice()) {

@@ -8,20 +8,24 @@ use Rattle.omega_ltl_shapes.specs.declared.shape.Shape.{Shape}
 use Rattle.omega_ltl_shapes.specs.declared.term.Term.{Term}
 use Rattle.omega_ltl_terms.specs.Closing.{Closes}
 use Rattle.omega_ltl_translation.specs.declared.graph.GraphEdge.{GraphEdge}
-use Rattle.omega_ltl_translation.specs.private.Graphs.{AddsStates, AreEdgesOf, AreNumbered, AreStates, IsExplored, IsNumberedEdge, IsStateNumber, edges_of_state, state_of}
+use Rattle.omega_ltl_translation.specs.private.Graphs.{AddsStates, AreEdgesOf, AreNumbered, AreStates, GrowTooMany, IsExplored, IsNumberedEdge, IsStateNumber, edges_of_state, state_of}
 
 pub adds_none : (G : List ℕ → Type 0) (states : List (List ℕ)) → AddsStates G states states
-adds_none G states = record { more = []; behind = sym (append-nil states); given = λ state h. absurd (omega (arith, h.1)) }
+adds_none G states = record { more = []; behind = sym (append-nil states); given = λ state h. absurd (omega (arith, h.1)); once = λ are. are }
 
 pub adds_more : (G : List ℕ → Type 0) (old mid new : List (List ℕ)) → AddsStates G old mid → AddsStates G mid new → AddsStates G old new
 adds_more G old mid new a b = record {
   more = a.more ++ b.more;
   behind = b.behind ∙ ap (λ xs. xs ++ b.more) a.behind ∙ append_assoc old a.more b.more;
   given = λ state h. elim (Contains-append_cases a.more b.more state h) [ inl one ↦ a.given state one | inr other ↦ b.given state other ];
+  once = λ are. b.once (a.once are);
 }
 
 pub adds_weaker : (G H : List ℕ → Type 0) (old new : List (List ℕ)) → ((state : List ℕ) → G state → H state) → AddsStates G old new → AddsStates H old new
-adds_weaker G H old new weaker a = record { more = a.more; behind = a.behind; given = λ state h. weaker state (a.given state h) }
+adds_weaker G H old new weaker a = record { more = a.more; behind = a.behind; given = λ state h. weaker state (a.given state h); once = a.once }
+
+pub grow_weaker : (G H : List ℕ → Type 0) (old : List (List ℕ)) → ((state : List ℕ) → G state → H state) → GrowTooMany G old → GrowTooMany H old
+grow_weaker G H old weaker g = record { new = g.new; adds = adds_weaker G H old g.new weaker g.adds; many = g.many }
 
 module _ (G : List ℕ → Type 0) (old new : List (List ℕ)) (adds : AddsStates G old new) where
   pub longer : length old ≤ length new
@@ -40,6 +44,7 @@ module _ (G : List ℕ → Type 0) (old new : List (List ℕ)) (adds : AddsState
 
   pub numbered_kept : (terms : List Term) (edges : List GraphEdge) → AreNumbered old terms edges → AreNumbered new terms edges
   numbered_kept terms edges are = record {
+    count = are.count;
     only = λ edge h. let from = are.only edge h in (from.0, from.1, edge_kept from.0 edge from.2);
     each = λ term h. let to = are.each term h in (to.0, to.1, edge_kept term to.0 to.2);
   }
@@ -49,16 +54,18 @@ module _ (G : List ℕ → Type 0) (old new : List (List ℕ)) (adds : AddsState
     terms = are.terms;
     right = are.right;
     enough = are.enough;
+    leads = are.leads;
     numbered = numbered_kept are.terms edges are.numbered;
   }
 
 pub numbered_none : (states : List (List ℕ)) → AreNumbered states [] []
-numbered_none states = record { only = λ edge h. absurd (omega (arith, h.1)); each = λ term h. absurd (omega (arith, h.1)) }
+numbered_none states = record { count = refl; only = λ edge h. absurd (omega (arith, h.1)); each = λ term h. absurd (omega (arith, h.1)) }
 
 -- one term more, whose state has a number
 pub numbered_more : (old new : List (List ℕ)) (terms : List Term) (edges : List GraphEdge) (term : Term) (edge : GraphEdge) → AreNumbered old terms edges
     → IsStateNumber term.next old new edge.target → edge.cube ≡ term.cube → edge.late ≡ term.late → AreNumbered new (terms ++ term ∷ []) (edges ++ edge ∷ [])
 numbered_more old new terms edges term edge are is cube late = record {
+  count = length_push edges edge ∙ ap (λ (n : ℕ). n + 1) are.count ∙ sym (length_push terms term);
   only = λ other h. elim (Contains-push_cases edges edge other h) [
     | inl before ↦ (let from = kept.only other before in (from.0, Contains-append_left terms (term ∷ []) from.0 from.1, from.2))
     | inr same ↦ (term, Contains-push terms term, subst (IsNumberedEdge new term) same here)

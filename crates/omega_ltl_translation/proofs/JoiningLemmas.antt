@@ -1,17 +1,19 @@
 -- Edges that are joined, one more at a time.
-use Rattle.std.proofs.Common.{◌≡◌, ◌⊎◌, inl, inr, ◌<◌, ℕ, List, [], ◌∷◌, ◌++◌, length, get_or, refl, sym, subst, ◌∙◌, arith}
+use Rattle.std.proofs.Common.{◌≡◌, ◌⊎◌, inl, inr, ◌<◌, ◌+◌, ℕ, List, [], ◌∷◌, ◌++◌, length, get_or, refl, sym, ap, subst, ◌∙◌, arith}
 use Rattle.std.specs.Prelude.{Contains}
 use Rattle.std.proofs.Math.ListN.{set, length-set}
 use Rattle.std.proofs.lemmas.Bool.{cases_eq}
-use Rattle.std.proofs.lemmas.List.{get_or-set_other, get_or-set_same, get_or_default}
+use Rattle.std.proofs.lemmas.List.{get_or-set_other, get_or-set_same, get_or_default, length_push}
+use Rattle.std.proofs.lemmas.List.Sums.{sum_by-set, sum_by_push}
 use Rattle.std.proofs.lemmas.List.Elements.{Contains-append_left, Contains-push, Contains-push_cases}
 use Rattle.omega_ltl_shapes.specs.declared.cube.Cube.{Cube}
 use Rattle.omega_ltl_translation.specs.declared.graph.GraphEdge.{GraphEdge}
 use Rattle.omega_ltl_translation.specs.declared.joining.JoinedEdge.{JoinedEdge}
-use Rattle.omega_ltl_translation.specs.private.Joining.{AddsJoined, AreJoined, HasCubeMore, IsJoinedTo, IsLike}
+use Rattle.omega_ltl_translation.specs.private.Joining.{AddsJoined, AreJoined, HasCubeMore, IsJoinable, IsJoinedTo, IsLike, joined_count}
+use Rattle.omega_ltl_translation.specs.private.Labels.{AreFew}
 
 pub joined_none : AreJoined [] []
-joined_none = record { each = λ edge h. absurd (omega (arith, h.1)); only = λ one cube h k. absurd (omega (arith, h.1)) }
+joined_none = record { each = λ edge h. absurd (omega (arith, h.1)); only = λ one cube h k. absurd (omega (arith, h.1)); filled = λ one h. absurd (omega (arith, h.1)); count = refl }
 
 pub joined_more : (edges : List GraphEdge) (edge : GraphEdge) (old new : List JoinedEdge) → AreJoined edges old → AddsJoined edge old new → AreJoined (edges ++ edge ∷ []) new
 joined_more edges edge old new are adds = record {
@@ -23,6 +25,8 @@ joined_more edges edge old new are adds = record {
     | inl here ↦ (edge, Contains-push edges edge, here.0, here.1)
     | inr there ↦ (let from = are.only there.0 cube there.1 there.2 in (from.0, Contains-append_left edges (edge ∷ []) from.0 from.1, from.2, there.3 from.0 from.3))
   ];
+  filled = adds.filled are.filled;
+  count = adds.count ∙ ap (λ (n : ℕ). n + 1) are.count ∙ sym (length_push edges edge);
 }
 
 -- a like edge stays like
@@ -39,6 +43,11 @@ joined_alone edge old one cubes target late = record {
     | inl before ↦ inr (other, before, k, λ e l. l)
     | inr same ↦ inl (alone cube (subst (λ (o : JoinedEdge). Contains o.cubes.items cube) (sym same) k), subst (IsLike edge) same like)
   ];
+  filled = λ are other h. elim (Contains-push_cases old one other h) [
+    | inl before ↦ are other before
+    | inr same ↦ subst (λ (o : JoinedEdge). AreFew o.cubes.items) same (omega (arith, ap length cubes), omega (arith, ap length cubes))
+  ];
+  count = sum_by_push (λ (o : JoinedEdge). length o.cubes.items) old one ∙ ap (λ (n : ℕ). joined_count old + n) (ap length cubes);
 }
   where
     like : IsLike edge one
@@ -71,9 +80,9 @@ module _ (old : List JoinedEdge) (at : ℕ) (one more : JoinedEdge) (below : at 
   ]
 
 -- an edge is joined to one of the list
-pub joined_at : (edge : GraphEdge) (old : List JoinedEdge) (at : ℕ) (one more : JoinedEdge) → at < length old → one ≡ get_or old at one → IsLike edge one → HasCubeMore edge.cube one more
+pub joined_at : (edge : GraphEdge) (old : List JoinedEdge) (at : ℕ) (one more : JoinedEdge) → at < length old → one ≡ get_or old at one → IsJoinable edge one → HasCubeMore edge.cube one more
     → AddsJoined edge old (set old at more)
-joined_at edge old at one more below here like adds = record {
+joined_at edge old at one more below here joinable adds = record {
   given = (more, changed_there old at one more below here, record { cube = last; like = like_kept edge one more adds.target adds.late like });
   keeps = λ before other h joined. elim (changed_keeps old at one more below here other h) [
     | inl kept ↦ (other, kept, joined)
@@ -83,8 +92,23 @@ joined_at edge old at one more below here like adds = record {
     | inl before ↦ inr (other, before, k, λ e l. l)
     | inr same ↦ of_more other cube same (subst (λ (o : JoinedEdge). Contains o.cubes.items cube) (sym same) k)
   ];
+  filled = λ are other h. elim (changed_only old at one more below here other h) [
+    | inl before ↦ are other before
+    | inr same ↦ subst (λ (o : JoinedEdge). AreFew o.cubes.items) same (omega (arith, long), omega (arith, long, joinable.room))
+  ];
+  count = (
+      let changed = sum_by-set (λ (o : JoinedEdge). length o.cubes.items) old at more one below in
+      let read : length one.cubes.items ≡ length (get_or old at one).cubes.items = ap (λ (o : JoinedEdge). length o.cubes.items) here in
+      omega (arith, changed, read, long)
+      );
 }
   where
+    like : IsLike edge one
+    like = joinable.like
+
+    long : length more.cubes.items ≡ length one.cubes.items + 1
+    long = ap length adds.cubes ∙ length_push one.cubes.items edge.cube
+
     last : Contains more.cubes.items edge.cube
     last = subst (λ (cs : List Cube). Contains cs edge.cube) (sym adds.cubes) (Contains-push one.cubes.items edge.cube)
 

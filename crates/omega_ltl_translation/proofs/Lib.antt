@@ -1,9 +1,12 @@
--- Lemmas by what they are about: graphs that grow, joined edges, labels, what is written and what it means, and runs.
+-- Lemmas by what they are about: graphs that grow, states that are reached and found, joined edges, labels, what is written and what it means, and runs.
 pub mod Growing
+pub mod Finding
+pub mod Reaching
 pub mod JoiningLemmas
 pub mod LabelLemmas
 pub mod WrittenLemmas
 pub mod Meaning
+pub mod Sizes
 pub mod Recurring
 pub mod Tracing
 pub mod Choosing

@@ -101,11 +101,16 @@ module _ (mean : WrittenLabelsMean) (definitions : List Defined) (none : definit
   pub targets_there : edge.targets ≡ joined.target ∷ []
   targets_there = me.targets ∙ we.targets
 
+-- no item says what an alias is
+pub no_aliases : (name : Option (List ℕ)) (propositions : List (List ℕ)) (sets : ℕ) (edges : List (List GraphEdge)) (raw : RawAutomaton)
+    → IsWrittenGraph name propositions sets edges raw → definitions_of raw ≡ []
+no_aliases name propositions sets edges raw written = ap (filter_map alias_in) written.items ∙ nothing_said alias_in (λ bytes. refl) name
+
 -- the automaton
 module _ (mean : WrittenLabelsMean) (formulas : WrittenFormulasMean) (name : Option (List ℕ)) (propositions : List (List ℕ)) (sets : ℕ) (edges : List (List GraphEdge))
     (raw : RawAutomaton) (written : IsWrittenGraph name propositions sets edges raw) (a : Description) (means : Means raw a) where
   no_definitions : definitions_of raw ≡ []
-  no_definitions = ap (filter_map alias_in) written.items ∙ nothing_said alias_in (λ bytes. refl) name
+  no_definitions = no_aliases name propositions sets edges raw written
 
   starts : a.starts ≡ (0 ∷ []) ∷ []
   starts = means.starts ∙ ap (filter_map start_in) written.items ∙ ap (λ (rest : List (List ℕ)). (0 ∷ []) ∷ rest) (nothing_said start_in (λ bytes. refl) name)

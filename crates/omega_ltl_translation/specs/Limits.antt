@@ -8,3 +8,11 @@ most_states = 1048576
 -- the most edges
 abbrev pub most_edges : ℕ
 most_edges = 8388608
+
+-- the most nodes of a label for each edge that is joined in it
+abbrev pub most_edge_label : ℕ
+most_edge_label = 193
+
+-- so many edges have labels within the limits of automata, whatever their labels are
+abbrev pub most_labelled_edges : ℕ
+most_labelled_edges = 86928

@@ -1,9 +1,10 @@
 //! The edges of a state, as a text writes them.
 
-ghost use Rattle.std.specs.Prelude.{◌≡◌, IfErr, IfOk, IsOkUnless, OnOk};
+ghost use Rattle.std.specs.Prelude.{◌≡◌, IfOk, IsOkUnless, OnOk};
 ghost use Rattle.std.specs.List.{AllZip};
 ghost use Rattle.omega_hoa_automaton.specs.Meaning.{written_marks};
-ghost use Rattle.omega_ltl_translation.specs.private.Labels.{IsDeep};
+ghost use Rattle.omega_ltl_translation.specs.private.Joining.{AreFilled};
+ghost use Rattle.omega_ltl_translation.specs.private.Labels.{AreFew};
 ghost use Rattle.omega_ltl_translation.specs.private.Written.{AddsMark, AreMarksOf, AreWrittenEdges};
 ghost use Rattle.omega_ltl_translation.specs.private.Written.{IsWrittenEdge};
 
@@ -18,7 +19,7 @@ use std::alloc::Global;
 /// Returns the edges of a state, those with one target and the same marks joined.
 pub(crate) fn edges_of(alloc: Global, edges: &[GraphEdge], sets: u32) -> Result<RawEdges, Refusal>
     ensures edges { IfOk result (AreWrittenEdges sets edges.now) }
-    ensures err { IfErr result IsDeep }
+    ensures memory { IsOkUnless result Refusal.Memory }
 {
     let joined = joined_edges(alloc, edges)?;
     written_edges(alloc, joined.as_slice(), sets)
@@ -26,8 +27,9 @@ pub(crate) fn edges_of(alloc: Global, edges: &[GraphEdge], sets: u32) -> Result<
 
 /// Returns joined edges, in their order.
 fn written_edges(alloc: Global, joined: &[JoinedEdge], sets: u32) -> Result<RawEdges, Refusal>
+    requires { AreFilled joined.now }
     ensures edges { IfOk result (AllZip (IsWrittenEdge sets) joined.now) }
-    ensures err { IfErr result IsDeep }
+    ensures memory { IsOkUnless result Refusal.Memory }
 {
     let mut written = RawEdges::new(alloc);
     for edge in joined {
@@ -39,8 +41,9 @@ fn written_edges(alloc: Global, joined: &[JoinedEdge], sets: u32) -> Result<RawE
 
 /// Returns an edge.
 fn written_edge(alloc: Global, edge: &JoinedEdge, sets: u32) -> Result<RawEdge, Refusal>
+    requires { AreFew edge.now.cubes.items }
     ensures edge { IfOk result (IsWrittenEdge sets edge.now) }
-    ensures err { IfErr result IsDeep }
+    ensures memory { IsOkUnless result Refusal.Memory }
 {
     let label = label_of(alloc, edge.cubes.as_slice())?;
     let marks = marks_of(alloc, edge.late, sets)?;

@@ -1,8 +1,8 @@
 //! Edges of one state that lead to one state and are late in the same sets, joined.
 
 ghost use Rattle.std.specs.Prelude.{IfOk, IsOkUnless, IsTrue, OnOk};
-ghost use Rattle.omega_ltl_translation.specs.private.Joining.{AddsJoined, AreJoined, HasCubeMore, IsLike};
-ghost use Rattle.omega_ltl_translation.specs.private.Joining.{IsPlaceToJoin};
+ghost use Rattle.omega_ltl_translation.specs.private.Joining.{AddsJoined, AreJoined, HasCubeMore};
+ghost use Rattle.omega_ltl_translation.specs.private.Joining.{IsJoinable, IsPlaceToJoin};
 
 use crate::graph::GraphEdge;
 use omega_ltl_shapes::Cube;
@@ -77,7 +77,7 @@ fn place_of(edge: GraphEdge, joined: &[JoinedEdge]) -> usize
 
 /// Whether an edge can be joined to others: they lead to the same state and are late in the same sets.
 fn is_joinable(edge: GraphEdge, joined: &JoinedEdge) -> bool
-    ensures { IsTrue result → IsLike edge joined.now }
+    ensures { IsTrue result → IsJoinable edge joined.now }
 {
     joined.target == edge.target && joined.late == edge.late && joined.cubes.len() < MOST_CUBES
 }

@@ -1,10 +1,9 @@
 //! Labels of edges, as a text writes them.
 
-ghost use Rattle.std.specs.Prelude.{◌≡◌, ◌≤◌, ◌+◌, ℕ, false, IfErr, IfOk};
+ghost use Rattle.std.specs.Prelude.{◌≡◌, ◌≤◌, ◌<◌, ◌+◌, ℕ, false, IfOk, IfSome, IsOkUnless};
 ghost use Rattle.omega_ltl_shapes.specs.Covers.{is_set};
-ghost use Rattle.omega_ltl_translation.specs.private.Labels.{IsTrueCube};
-ghost use Rattle.omega_ltl_translation.specs.private.Labels.{AreTrueBelow, AreTrueOn, IsDeep, IsLabelAt};
-ghost use Rattle.omega_ltl_translation.specs.private.Labels.{IsLabelOrNone, SomeIsTrue};
+ghost use Rattle.omega_ltl_translation.specs.private.Labels.{AreFew, AreTrueOn, IsLabelAt, IsLabelBelow};
+ghost use Rattle.omega_ltl_translation.specs.private.Labels.{IsLabelOf, IsLabelOrNone, IsOperand, IsTrueCube};
 ghost use Rattle.omega_ltl_translation.specs.private.Labels.{conjunction_of, disjunction_of};
 
 use omega_hoa_label::RawLabel;
@@ -14,8 +13,9 @@ use std::alloc::Global;
 
 /// Returns the label that is true where one of some cubes is.
 pub(crate) fn label_of(alloc: Global, cubes: &[Cube]) -> Result<RawLabel, Refusal>
-    ensures label { IfOk result (IsLabelAt 1 (SomeIsTrue cubes.now)) }
-    ensures err { IfErr result IsDeep }
+    requires { AreFew cubes.now }
+    ensures label { IfOk result (IsLabelOf cubes.now) }
+    ensures memory { IsOkUnless result Refusal.Memory }
 {
     let mut label = None;
     for cube in cubes {
@@ -30,8 +30,10 @@ pub(crate) fn label_of(alloc: Global, cubes: &[Cube]) -> Result<RawLabel, Refusa
 
 /// Returns the disjunction of two labels; none is true at no letter.
 fn disjunction(label: Option<RawLabel>, more: RawLabel) -> Result<RawLabel, Refusal>
+    requires one { IfSome label IsOperand }
+    requires other { IsOperand more }
     ensures ok { IfOk result (λ either. either ≡ disjunction_of label more) }
-    ensures err { IfErr result IsDeep }
+    ensures memory { IsOkUnless result Refusal.Memory }
 {
     match label {
         None => Ok(more),
@@ -41,8 +43,8 @@ fn disjunction(label: Option<RawLabel>, more: RawLabel) -> Result<RawLabel, Refu
 
 /// Returns the label of a cube.
 fn cube_label(alloc: Global, cube: Cube) -> Result<RawLabel, Refusal>
-    ensures label { IfOk result (IsLabelAt 2 (λ letter. IsTrueCube letter cube)) }
-    ensures err { IfErr result IsDeep }
+    ensures label { IfOk result (IsLabelAt 2 192 66 (λ letter. IsTrueCube letter cube)) }
+    ensures memory { IsOkUnless result Refusal.Memory }
 {
     word_ends(cube.positive);
     word_ends(cube.negative);
@@ -63,9 +65,10 @@ fn with_name(
     cube: Cube,
     name: u32,
 ) -> Result<Option<RawLabel>, Refusal>
-    requires { IsLabelOrNone 2 (AreTrueBelow cube name) label }
-    ensures label { IfOk result (IsLabelOrNone 2 (AreTrueBelow cube (name + 1))) }
-    ensures err { IfErr result IsDeep }
+    requires low { name < 64 }
+    requires label { IsLabelBelow cube name label }
+    ensures label { IfOk result (IsLabelBelow cube (name + 1)) }
+    ensures memory { IsOkUnless result Refusal.Memory }
 {
     let more = name_label(alloc, cube, name)?;
     conjunction(label, more)
@@ -73,8 +76,10 @@ fn with_name(
 
 /// Returns the conjunction of two labels; none is true at each letter.
 fn conjunction(label: Option<RawLabel>, more: Option<RawLabel>) -> Result<Option<RawLabel>, Refusal>
+    requires one { IfSome label IsOperand }
+    requires other { IfSome more IsOperand }
     ensures ok { IfOk result (λ both. both ≡ conjunction_of label more) }
-    ensures err { IfErr result IsDeep }
+    ensures memory { IsOkUnless result Refusal.Memory }
 {
     match (label, more) {
         (None, more) => Ok(more),
@@ -85,8 +90,8 @@ fn conjunction(label: Option<RawLabel>, more: Option<RawLabel>) -> Result<Option
 
 /// Returns the label of the literals of a cube on a name, or none if it has none.
 fn name_label(alloc: Global, cube: Cube, name: u32) -> Result<Option<RawLabel>, Refusal>
-    ensures label { IfOk result (IsLabelOrNone 3 (AreTrueOn cube name)) }
-    ensures err { IfErr result IsDeep }
+    ensures label { IfOk result (IsLabelOrNone 3 2 2 (AreTrueOn cube name)) }
+    ensures memory { IsOkUnless result Refusal.Memory }
 {
     let positive = cube.has(name, false);
     let negative = cube.has(name, true);

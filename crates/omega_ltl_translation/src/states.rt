@@ -1,8 +1,7 @@
 //! The states of a graph, as a text writes them.
 
-ghost use Rattle.std.specs.Prelude.{◌≤◌, length, IfErr, IfOk};
+ghost use Rattle.std.specs.Prelude.{◌≤◌, length, IfOk, IsOkUnless};
 ghost use Rattle.omega_ltl_translation.specs.Limits.{most_states};
-ghost use Rattle.omega_ltl_translation.specs.private.Labels.{IsDeep};
 ghost use Rattle.omega_ltl_translation.specs.private.Written.{AreWrittenStates, IsWrittenState};
 
 use crate::edges::edges_of;
@@ -21,7 +20,7 @@ pub(crate) fn states_of(
     requires { length edges.now ≤ most_states }
     ensures states { IfOk result
         (λ states. AreWrittenStates sets edges.now (length edges.now) states.items) }
-    ensures err { IfErr result IsDeep }
+    ensures memory { IsOkUnless result Refusal.Memory }
 {
     let mut states = Vec::new(alloc);
     for number in 0..edges.len() {
@@ -34,7 +33,7 @@ pub(crate) fn states_of(
 /// Returns the state with a number and edges.
 fn state_of(alloc: Global, number: u32, edges: &[GraphEdge], sets: u32) -> Result<RawState, Refusal>
     ensures state { IfOk result (IsWrittenState sets number edges.now) }
-    ensures err { IfErr result IsDeep }
+    ensures memory { IsOkUnless result Refusal.Memory }
 {
     let edges = edges_of(alloc, edges, sets)?;
     Ok(RawState {

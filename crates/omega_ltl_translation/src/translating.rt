@@ -1,7 +1,8 @@
 ghost use Rattle.std.specs.Prelude.{◌≡◌, ◌<◌, IfErr, IfOk};
 ghost use Rattle.omega_ltl_formula.specs.Table.{tree_of};
 ghost use Rattle.omega_ltl_shapes.specs.Shapes.{demand};
-ghost use Rattle.omega_ltl_terms.specs.Adding.{IsLarge};
+ghost use Rattle.omega_ltl_terms.specs.Adding.{IsLargeBy};
+ghost use Rattle.omega_ltl_translation.specs.PastLimits.{IsPastLimits};
 ghost use Rattle.omega_ltl_translation.specs.Translation.{HasHeader, IsGeneralizedBuchi, IsTranslation};
 ghost use Rattle.omega_ltl_translation.specs.Translation.{asked_tree, given_name};
 
@@ -25,7 +26,8 @@ use std::alloc::Global;
 /// Time and memory are exponential in the number of operators at worst.
 ///
 /// Refused with [TaskFault::TooLarge] if there are over `MOST_STATES` states, `MOST_EDGES` edges, `MOST_TERMS` terms of
-/// a demand or of a state, or `MOST_SETS` sets, or if labels pass their limits.
+/// a demand or of a state, or `MOST_SETS` sets, or if labels together have over 16,777,216 nodes, for which over 86,928
+/// edges are needed.
 pub fn translate(
     alloc: Global,
     formula: &Formula,
@@ -35,7 +37,7 @@ pub fn translate(
     ensures right { IfOk result (IsTranslation (asked_tree negated (tree_of formula.now))) }
     ensures buchi { IfOk result IsGeneralizedBuchi }
     ensures header { IfOk result (HasHeader (given_name name.now) formula.now.table.names) }
-    ensures refused { IfErr result IsLarge }
+    ensures refused { IfErr result (IsLargeBy (IsPastLimits formula.now negated)) }
 {
     truths_follow_shapes();
     traces_are_sound();

@@ -94,7 +94,7 @@ AnswersOneText (Empty word names status) budget text =
 AnswersOneText (EmptySearch word names status) budget text =
     Concludes (EndsEmptySearch text (lines_for word names) status) (IsEmptySearchRefusal text)
 AnswersOneText Complement budget text = Replies (IsComplementAnswer text) (IsComplementRefusal text)
-AnswersOneText (Ltl negated) budget text = Replies (IsLtlAnswer text negated) (IsLtlRefusal text)
+AnswersOneText (Ltl negated) budget text = Replies (IsLtlAnswer text negated) (IsLtlRefusal text negated)
 AnswersOneText LtlDeterministic budget text =
     Replies (IsDeterministicAnswer text) (IsDeterministicRefusal text)
 AnswersOneText Trim budget text = Replies (IsTrimAnswer text) (IsTrimAnswerRefusal text)

@@ -1,26 +1,28 @@
 -- Labels of edges as a text writes them, by when they are true.
-use Rattle.std.specs.Prelude.{◌≡◌, ◌↔◌, ◌≤◌, ◌<◌, ℕ, Bool, IsTrue, List, [], Option, None, Some, Contains}
-use Rattle.std.specs.Prelude.{IfNone, IfSome}
-use Rattle.omega_text.specs.Cases.{never, or_automaton, or_memory}
-use Rattle.omega_text.specs.declared.refusal.Refusal.{Refusal}
-use Rattle.omega_text.specs.declared.refusal.automaton.AutomatonFault.TheVariants.{TooDeep}
-use Rattle.omega_hoa_label.specs.Label.{LabelTree, truth}
-use Rattle.omega_hoa_label.specs.Raw.{RawLabelTree, conjunction, disjunction}
+use Rattle.std.specs.Prelude.{◌≡◌, ◌↔◌, ◌≤◌, ◌<◌, ◌+◌, ◌*◌, ℕ, Bool, IsTrue, List, [], Option, None, Some, length}
+use Rattle.std.specs.Prelude.{Contains, IfNone, IfSome}
+use Rattle.omega_hoa_expression.specs.Limits.{most_depth}
+use Rattle.omega_hoa_label.specs.Label.{LabelTree, label_size, truth}
+use Rattle.omega_hoa_label.specs.Raw.{RawLabelTree, conjunction, disjunction, raw_depth}
 use Rattle.omega_hoa_label.specs.Writing.{label_text, label_written}
 use Rattle.omega_ltl_shapes.specs.Covers.{HasLiteral}
 use Rattle.omega_ltl_shapes.specs.Demands.{IsLiteralTrue}
 use Rattle.omega_ltl_shapes.specs.declared.cube.Cube.{Cube}
+use Rattle.omega_ltl_translation.specs.Limits.{most_edge_label}
 
 -- a cube is true at a letter
 abbrev pub IsTrueCube : (ℕ → Bool) → Cube → Type 0
 IsTrueCube letter cube =
     (name : ℕ) (negated : Bool) → HasLiteral cube name negated → IsLiteralTrue letter name negated
 
--- a label as it is written, whose top operator binds at least so tightly, and which is true at such letters
-pub record IsLabelAt (rank : ℕ) (Holds : (ℕ → Bool) → Type 0) (written : RawLabelTree) : Type 0 where
+-- a label as it is written, whose top operator binds at least so tightly, with at most so many nodes and so deep, and
+-- which is true at such letters
+pub record IsLabelAt (rank size depth : ℕ) (Holds : (ℕ → Bool) → Type 0) (written : RawLabelTree) : Type 0 where
   pub tree : LabelTree
   pub is : written ≡ label_written tree
   pub binds : rank ≤ (label_text tree).rank
+  pub small : label_size tree ≤ size
+  pub shallow : raw_depth written ≤ depth
   pub exact : (letter : ℕ → Bool) → IsTrue (truth letter tree) ↔ Holds letter
 
 -- the literals of a cube on a name are true
@@ -39,8 +41,9 @@ abbrev pub SomeIsTrue : List Cube → (ℕ → Bool) → Type 0
 SomeIsTrue cubes letter = (cube : Cube) × Contains cubes cube × IsTrueCube letter cube
 
 -- a label that is true at such letters, or none if that is each letter
-pub record IsLabelOrNone (rank : ℕ) (Holds : (ℕ → Bool) → Type 0) (label : Option RawLabelTree) : Type 0 where
-  pub some : IfSome label (IsLabelAt rank Holds)
+pub record IsLabelOrNone (rank size depth : ℕ) (Holds : (ℕ → Bool) → Type 0) (label : Option RawLabelTree)
+    : Type 0 where
+  pub some : IfSome label (IsLabelAt rank size depth Holds)
   pub none : IfNone label ((letter : ℕ → Bool) → Holds letter)
 
 -- the conjunction of two labels; none is true at each letter
@@ -54,11 +57,23 @@ abbrev pub disjunction_of : Option RawLabelTree → RawLabelTree → RawLabelTre
 disjunction_of None more = more
 disjunction_of (Some label) more = disjunction label more
 
--- a refusal because a label would be too deep, or for want of memory
-abbrev pub IsDeep : Refusal → Type 0
-IsDeep = or_automaton (λ fault. fault ≡ TooDeep) (or_memory never)
+-- a label can be an operand of another
+abbrev pub IsOperand : RawLabelTree → Type 0
+IsOperand label = raw_depth label < most_depth
+
+-- so many cubes are joined to one label, which is not too deep
+abbrev pub AreFew : List Cube → Type 0
+AreFew cubes = (0 < length cubes) × (length cubes ≤ 128)
+
+-- the label of a cube with the literals on the first names
+abbrev pub IsLabelBelow : Cube → ℕ → Option RawLabelTree → Type 0
+IsLabelBelow cube count = IsLabelOrNone 2 (count * 3) (count + 2) (AreTrueBelow cube count)
+
+-- the label that is true where some cube of a list is
+abbrev pub IsLabelOf : List Cube → RawLabelTree → Type 0
+IsLabelOf cubes = IsLabelAt 1 (length cubes * most_edge_label) (length cubes + 66) (SomeIsTrue cubes)
 
 -- a label that is true where some cube of a list is, or none if the list is empty
 pub record IsLabelOfCubes (cubes : List Cube) (label : Option RawLabelTree) : Type 0 where
-  pub some : IfSome label (IsLabelAt 1 (SomeIsTrue cubes))
+  pub some : IfSome label (IsLabelOf cubes)
   pub none : IfNone label (cubes ≡ [])

@@ -1,11 +1,11 @@
 -- The automaton of a graph as a text writes it (HOA v1, header and body).
-use Rattle.std.specs.Prelude.{◌≡◌, ◌↔◌, ◌<◌, ◌⊎◌, ℕ, Bool, false, IsTrue, List, [], ◌∷◌, length}
+use Rattle.std.specs.Prelude.{◌≡◌, ◌↔◌, ◌<◌, ◌≤◌, ◌*◌, ◌⊎◌, ℕ, Bool, false, IsTrue, List, [], ◌∷◌, length}
 use Rattle.std.specs.Prelude.{Contains, Option, None, Some}
 use Rattle.std.specs.List.{AllZip, range_with_len}
 use Rattle.omega_hoa_acceptance.specs.Kind.{buchi_formula}
 use Rattle.omega_hoa_acceptance.specs.Writing.{acc_written}
 use Rattle.omega_hoa_automaton.specs.Meaning.{written_marks}
-use Rattle.omega_hoa_label.specs.Label.{LabelTree, truth}
+use Rattle.omega_hoa_label.specs.Label.{LabelTree, label_size, truth}
 use Rattle.omega_hoa_label.specs.Writing.{label_written}
 use Rattle.omega_hoa_syntax.specs.declared.raw_automaton.RawAutomaton.{RawAutomaton}
 use Rattle.omega_hoa_syntax.specs.declared.raw_edge.RawEdge.{RawEdge}
@@ -14,6 +14,7 @@ use Rattle.omega_hoa_syntax.specs.declared.raw_item.RawItem.TheVariants as item
 use Rattle.omega_hoa_syntax.specs.declared.raw_state.RawState.{RawState}
 use Rattle.omega_lang_product.specs.Acceptance.{buchi_name}
 use Rattle.omega_ltl_shapes.specs.Covers.{is_set}
+use Rattle.omega_ltl_translation.specs.Limits.{most_edge_label}
 use Rattle.omega_ltl_translation.specs.declared.graph.GraphEdge.{GraphEdge}
 use Rattle.omega_ltl_translation.specs.declared.joining.JoinedEdge.{JoinedEdge}
 use Rattle.omega_ltl_translation.specs.private.Graphs.{edges_of_state}
@@ -46,6 +47,7 @@ pub record IsWrittenEdge (sets : ℕ) (joined : JoinedEdge) (raw : RawEdge) : Ty
   pub label : LabelTree
   pub label_is : raw.label ≡ Some (label_written label)
   pub exact : (letter : ℕ → Bool) → IsTrue (truth letter label) ↔ SomeIsTrue joined.cubes.items letter
+  pub small : label_size label ≤ length joined.cubes.items * most_edge_label
   pub targets : raw.targets ≡ joined.target ∷ []
   pub marks : AreMarksOf sets joined.late (written_marks raw.marks)
 

@@ -9,14 +9,14 @@ use Rattle.omega.proofs.formulas.omega_ltl.Goals as goal
 
 pub returns-in-Ok : goal.returns-in-Ok
 returns-in-Ok c =
-    text_given (IsLtlAnswer c.args.formula.now (asks c.args.negated)) (IsOneRefused (IsLtlRefusal c.args.formula.now)) c.give.result c.args.out.now c.give.new.out
+    text_given (IsLtlAnswer c.args.formula.now (asks c.args.negated)) (IsOneRefused (IsLtlRefusal c.args.formula.now (asks c.args.negated))) c.give.result c.args.out.now c.give.new.out
     c.in-Ok.output.items (subst (λ (b : Bool). IsLtlAnswer c.args.formula.now b c.in-Ok.output.items) c.asks.ensures c.in-Ok.ensures.answer) refl c.give.ensures
 
 pub returns-in-Err : goal.returns-in-Err
 returns-in-Err c =
     inr (record {
       refused = about_input c.in-Err.refusal;
-      refuses_so = one_refused (IsLtlRefusal c.args.formula.now) c.in-Err.refusal c.in-Err.ensures.refused;
+      refuses_so = one_refused (IsLtlRefusal c.args.formula.now (asks c.args.negated)) c.in-Err.refusal c.in-Err.ensures.refused;
       outcome_is = c.of_one.ensures;
       kept = refl;
     })

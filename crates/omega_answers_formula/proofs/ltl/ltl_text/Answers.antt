@@ -18,9 +18,9 @@ returns-clause-answer c =
 pub returns-clause-refused : goal.returns-clause-refused
 returns-clause-refused c =
     IfErr-weaker c.automaton_text.result _ _
-    (λ refusal large. or_memory_of (IsLtlRefusal c.args.text.now) refusal (inr (record {
+    (λ refusal large. or_memory_of (IsLtlRefusal c.args.text.now c.args.negated) refusal (inr (record {
       formula = c.in_ok-formula.formula;
       read = record { read = c.in_ok-formula.ensures.formula; names = c.in_ok-formula.ensures.names };
-      holds = large;
+      holds = record { few = c.in_ok-formula.ensures.nodes; large = large };
     })))
     c.automaton_text.ensures.refused

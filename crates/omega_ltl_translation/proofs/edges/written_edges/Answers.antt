@@ -24,3 +24,10 @@ loop-edge-preserved c =
 pub returns-clause-edges : goal.returns-clause-edges
 returns-clause-edges c =
     subst (λ (xs : List JoinedEdge). AllZip (IsWrittenEdge c.args.sets) xs c.loop-edge.written) (take_all c.loop-edge.edge-index c.args.joined.now (omega arith)) c.loop-edge.invariant
+
+pub written_edge-requires : goal.written_edge-requires
+written_edge-requires c =
+    let i : ℕ = c.loop-edge.edge-index in
+    let below : i < length c.args.joined.now = omega arith in
+    let here : c.edge-item.result ≡ get_or c.args.joined.now i c.edge-item.result = cc in
+    c.requires c.edge-item.result (i, below, sym here)

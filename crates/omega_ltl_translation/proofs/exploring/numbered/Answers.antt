@@ -5,7 +5,8 @@ use Rattle.std.specs.Prelude.{Contains}
 use Rattle.omega_ltl_shapes.specs.declared.term.Term.{Term}
 use Rattle.omega_ltl_shapes.proofs.ItemLemmas.{take_read}
 use Rattle.omega_ltl_translation.specs.declared.graph.GraphEdge.{GraphEdge}
-use Rattle.omega_ltl_translation.specs.private.Graphs.{AreNumbered, IsStateNumber}
+use Rattle.omega_ltl_terms.proofs.Refused.{large_weaker, passed_on}
+use Rattle.omega_ltl_translation.specs.private.Graphs.{AreNumbered, GrowTooMany, IsStateNumber}
 use Rattle.omega_ltl_translation.proofs.Growing.{adds_more, adds_none, adds_weaker, numbered_more, numbered_none}
 use Rattle.omega_ltl_translation.proofs.exploring.numbered.Goals as goal
 
@@ -13,6 +14,7 @@ pub loop-term-init : goal.loop-term-init
 loop-term-init c = record {
   numbered = subst (λ (es : List GraphEdge). AreNumbered c.args.states.now.items [] es) (sym c.new-edges.ensures.items) (numbered_none c.args.states.now.items);
   adds = adds_none (λ state. (term : Term) × Contains c.args.terms.now term × (term.next ≡ state)) c.args.states.now.items;
+  found = c.requires;
 }
 
 pub loop-term-preserved : goal.loop-term-preserved
@@ -34,9 +36,19 @@ loop-term-preserved c =
       adds = adds_more (λ state. (t : Term) × Contains terms t × (t.next ≡ state)) c.args.states.now.items old new c.loop-term.invariant.adds
           (adds_weaker (λ added. added ≡ term.next) (λ state. (t : Term) × Contains terms t × (t.next ≡ state)) old new
           (λ state same. (term, (i, below, sym here), sym same)) is.adds);
+      found = c.in_ok-target.ensures.found;
     }
 
 pub returns-clause-numbered : goal.returns-clause-numbered
 returns-clause-numbered c =
     subst (λ (xs : List Term). AreNumbered c.loop-term.states.items xs c.from_vec.result) (take_all c.loop-term.term-index c.args.terms.now (omega arith))
     (subst (AreNumbered c.loop-term.states.items (take c.loop-term.term-index c.args.terms.now)) (sym c.from_vec.ensures) c.loop-term.invariant.numbered)
+
+-- over the limit
+pub returns-in_err-target-clause-refused : goal.returns-in_err-target-clause-refused
+returns-in_err-target-clause-refused c =
+    passed_on c.from_residual.result _ _ c.from_residual.ensures.1
+    (large_weaker (1048576 < length c.loop-term.states.items)
+    (GrowTooMany (λ state. (term : Term) × Contains c.args.terms.now term × (term.next ≡ state)) c.args.states.now.items)
+    (λ many. record { new = c.loop-term.states.items; adds = c.loop-term.invariant.adds; many = many })
+    _ c.in_err-target.ensures.refused)

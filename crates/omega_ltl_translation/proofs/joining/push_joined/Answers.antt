@@ -2,7 +2,7 @@
 use Rattle.std.proofs.Common.{◌<◌, ℕ, List, length, refl, subst, sym, arith}
 use Rattle.std.proofs.lemmas.Result.{on_ok_weaker}
 use Rattle.omega_ltl_translation.specs.declared.joining.JoinedEdge.{JoinedEdge}
-use Rattle.omega_ltl_translation.specs.private.Joining.{AddsJoined, IsLike, IsPlaceToJoin}
+use Rattle.omega_ltl_translation.specs.private.Joining.{AddsJoined, IsJoinable, IsPlaceToJoin}
 use Rattle.omega_ltl_translation.proofs.JoiningLemmas.{joined_alone, joined_at}
 use Rattle.omega_ltl_translation.proofs.joining.push_joined.Goals as goal
 
@@ -14,7 +14,7 @@ returns-then-at-len-clause-adds c =
     let below : at < length old = omega arith in
     let place : IsPlaceToJoin c.args.edge old at = subst (λ (xs : List JoinedEdge). IsPlaceToJoin c.args.edge xs at) c.as_slice.ensures.value c.place_of-at.ensures in
     on_ok_weaker c.push_cube.result
-    (λ more. joined_at c.args.edge old at one c.push_cube.new.joined below c.index_mut.ensures.value (subst (IsLike c.args.edge) (sym c.index_mut.ensures.value) (place below one)) more)
+    (λ more. joined_at c.args.edge old at one c.push_cube.new.joined below c.index_mut.ensures.value (subst (IsJoinable c.args.edge) (sym c.index_mut.ensures.value) (place below one)) more)
     c.push_cube.ensures.ok
 
 pub returns-clause-adds : goal.returns-clause-adds

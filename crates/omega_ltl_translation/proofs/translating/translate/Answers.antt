@@ -1,8 +1,11 @@
 -- the automaton of the graph of the formula is a translation
 use Rattle.std.proofs.Common.{◌≡◌, ◌<◌, ℕ, List, length, sym, subst}
-use Rattle.std.proofs.lemmas.Result.{IfOk-weaker}
+use Rattle.std.specs.Prelude.{sum_by}
+use Rattle.std.proofs.lemmas.Result.{IfErr-weaker, IfOk-weaker}
 use Rattle.omega_ltl_shapes.specs.Shapes.{demand}
-use Rattle.omega_ltl_terms.proofs.Refused.{large_by, passed_on}
+use Rattle.omega_ltl_terms.specs.Tables.{HasLargeDemand}
+use Rattle.omega_ltl_terms.proofs.Refused.{large_weaker, passed_on}
+use Rattle.omega_ltl_translation.specs.PastLimits.{IsGraphTooLarge, IsPastLimits, large_demand, large_graph, many_edges}
 use Rattle.omega_ltl_translation.specs.Translation.{HasHeader, given_name}
 use Rattle.omega_ltl_translation.specs.declared.graph.GraphEdge.{GraphEdge}
 use Rattle.omega_ltl_translation.specs.private.Automata.{IsAutomatonOf}
@@ -40,5 +43,34 @@ returns-clause-header c = IfOk-weaker c.automaton_of_graph.result _ _
     (λ a is. subst (λ (names : List (List ℕ)). HasHeader (given_name c.args.name.now) names a) c.names.ensures is)
     c.automaton_of_graph.ensures.header
 
+-- a demand is too large, or the graph
 pub returns-in_err-tables-clause-refused : goal.returns-in_err-tables-clause-refused
-returns-in_err-tables-clause-refused c = passed_on c.from_residual.result _ _ c.from_residual.ensures.1 (large_by _ _ c.in_err-tables.ensures.refused)
+returns-in_err-tables-clause-refused c = passed_on c.from_residual.result _ _ c.from_residual.ensures.1
+    (large_weaker (HasLargeDemand c.args.formula.now.table.nodes) (IsPastLimits c.args.formula.now c.args.negated) (λ large. large_demand large) _ c.in_err-tables.ensures.refused)
+
+pub returns-in_err-graph-clause-refused : goal.returns-in_err-graph-clause-refused
+returns-in_err-graph-clause-refused c =
+    let formula = c.args.formula.now in
+    let shapes = c.in_ok-tables.tables.shapes in
+    let strongs : List ℕ = c.in_ok-tables.tables.strongs in
+    passed_on c.from_residual-in_err-graph.result _ _ c.from_residual-in_err-graph.ensures.1
+    (large_weaker (IsGraphTooLarge shapes strongs c.root_demand-root.result) (IsPastLimits formula c.args.negated)
+    (λ large. large_graph shapes strongs c.in_ok-tables.ensures.shapes c.in_ok-tables.ensures.tables.strongs c.in_ok-tables.ensures.sets
+    (subst (IsGraphTooLarge shapes strongs) c.root_demand-root.ensures large))
+    _ c.in_err-graph.ensures.refused)
+
+pub returns-clause-refused : goal.returns-clause-refused
+returns-clause-refused c =
+    let formula = c.args.formula.now in
+    let shapes = c.in_ok-tables.tables.shapes in
+    let strongs : List ℕ = c.in_ok-tables.tables.strongs in
+    let states : List (List ℕ) = c.in_ok-graph.graph.states.items in
+    let edges : List (List GraphEdge) = c.in_ok-graph.graph.edges.items in
+    IfErr-weaker c.automaton_of_graph.result _ _
+    (λ refusal large. large_weaker (86928 < sum_by length c.as_slice.result.now) (IsPastLimits formula c.args.negated)
+    (λ many. large_graph shapes strongs c.in_ok-tables.ensures.shapes c.in_ok-tables.ensures.tables.strongs c.in_ok-tables.ensures.sets
+    (subst (IsGraphTooLarge shapes strongs) c.root_demand-root.ensures
+    (many_edges states (sum_by length edges) c.in_ok-graph.ensures.reached c.in_ok-graph.ensures.counted
+    (subst (λ (es : List (List GraphEdge)). 86928 < sum_by length es) c.as_slice.ensures.value many))))
+    refusal large)
+    c.automaton_of_graph.ensures.refused
