@@ -9,5 +9,6 @@ pub mod StrongLemmas
 pub mod TermLemmas
 pub mod ClosingLemmas
 pub mod MeetingLemmas
+pub mod PossibleLemmas
 pub mod SplittingLemmas
 pub mod EdgeLemmas

@@ -1,21 +1,30 @@
 -- Cubes without the letters of others, and edges that are split.
-use Rattle.std.proofs.Common.{◌≡◌, ◌⊎◌, inl, inr, ◌<◌, ◌+◌, ℕ, Bool, true, false, not, List, [], ◌∷◌, ◌++◌}
-use Rattle.std.proofs.Common.{length, get_or, take, refl, sym, subst, arith}
-use Rattle.std.specs.Prelude.{Contains, IsTrue}
-use Rattle.std.proofs.lemmas.Bool.{cases_Bool, cases_lt, not_from_false}
-use Rattle.std.proofs.lemmas.List.Elements.{Contains-append_left, Contains-push, Contains-push_cases}
+use Rattle.std.proofs.Common.{◌≡◌, ◌⊎◌, inl, inr, ◌<◌, ◌+◌, ℕ, zero, suc, Bool, true, false, not, List, [], ◌∷◌, ◌++◌}
+use Rattle.std.proofs.Common.{length, get_or, take, Option, None, Some, is_some, refl, sym, ap, subst, ◌∙◌, append_assoc, append-nil, arith}
+use Rattle.std.specs.Prelude.{Contains, IfSome, IsTrue}
+use Rattle.std.specs.List.{AllZip, flat_map}
+use Rattle.std.proofs.lemmas.Bool.{cases_Bool, cases_lt, false≢true, not_from_false}
+use Rattle.std.proofs.lemmas.List.{get_or_append_left, get_or_at, length_push}
+use Rattle.std.proofs.lemmas.List.Concat.{flat_map-append}
+use Rattle.std.proofs.lemmas.List.Elements.{Contains-append_cases, Contains-append_left, Contains-append_right}
+use Rattle.std.proofs.lemmas.List.Elements.{Contains-get_or, Contains-push, Contains-push_cases}
+use Rattle.std.proofs.lemmas.List.Quantifiers.{all_pairs_push}
+use Rattle.std.proofs.lemmas.Slice.Zip.{all_zipped_more}
 use Rattle.omega_ltl_shapes.specs.Covers.{HasLiteral, is_set}
 use Rattle.omega_ltl_shapes.specs.Demands.{IsLiteralTrue, Valuation}
 use Rattle.omega_ltl_shapes.specs.Graphs.{IsGood}
-use Rattle.omega_ltl_shapes.specs.Terms.{HasLiterals, IsCubeWith}
+use Rattle.omega_ltl_shapes.specs.Terms.{AreContradictory, HasLiterals, IsCubeWith}
 use Rattle.omega_ltl_shapes.specs.declared.cube.Cube.{Cube}
 use Rattle.omega_ltl_shapes.specs.declared.shape.Shape.{Shape}
 use Rattle.omega_ltl_shapes.specs.declared.term.Term.{Term}
 use Rattle.omega_ltl_shapes.proofs.ItemLemmas.{get_or_same, take_read}
 use Rattle.omega_ltl_terms.specs.Adding.{HasGood}
-use Rattle.omega_ltl_terms.specs.private.Splitting.{AddsNegation, AddsNegations, AddsParts, AddsWithout}
-use Rattle.omega_ltl_terms.specs.private.Splitting.{AreLeft, AreSplit, ArePushed, AreWithout, AsksNoMore}
+use Rattle.omega_ltl_terms.specs.Pieces.{ArePieces, IsOver, IsPossible}
+use Rattle.omega_ltl_terms.specs.private.Splitting.{AddsNegation, AddsNegations, AddsParts, AddsWithout, AllOver}
+use Rattle.omega_ltl_terms.specs.private.Splitting.{AreDisjoint, AreLeft, AreSplit, AreSplitInOrder, ArePushed}
+use Rattle.omega_ltl_terms.specs.private.Splitting.{AreWithout, AsksNoMore, IsSplitting}
 use Rattle.omega_ltl_terms.specs.private.Splitting.{IsCubeTrue, IsPart, SomeCubeTrue}
+use Rattle.omega_ltl_terms.proofs.PossibleLemmas.{clash, contradict_back, contradict_more, with_agrees, with_possible}
 
 pub literals_itself : (cube : Cube) → HasLiterals cube cube
 literals_itself cube name negated h = h
@@ -45,9 +54,9 @@ true_with letter cube more name negated is all one n s h = elim ((is n s).0 h) [
 ]
 
 -- one step
-pub negation_added : (base other more opposite : Cube) (name : ℕ) (negated : Bool) (old : List Cube) → IsCubeWith base name negated more → IsCubeWith base name (not negated) opposite
-    → AddsNegation base other name negated more old (old ++ opposite ∷ [])
-negation_added base other more opposite name negated old is against = record {
+pub negation_added : (base other more opposite : Cube) (name : ℕ) (negated : Bool) (old : List Cube) → HasLiteral other name negated → (HasLiteral base name negated → ⊥)
+    → IsCubeWith base name negated more → IsCubeWith base name (not negated) opposite → AddsNegation base other name negated more old (old ++ opposite ∷ [])
+negation_added base other more opposite name negated old there lacks is against = record {
   keeps = λ part h. Contains-append_left old (opposite ∷ []) part h;
   only = λ part h. elim (Contains-push_cases old opposite part h) [
     | inl there ↦ inl there
@@ -59,6 +68,55 @@ negation_added base other more opposite name negated old is against = record {
     | inl sure ↦ inl (true_with letter base more name negated is all sure)
     | inr never ↦ inr (opposite, Contains-push old opposite, true_with letter base opposite name (not negated) against all never)
   ];
+  split = λ possible s. record {
+    disjoint = record {
+      apart = all_pairs_push AreContradictory old opposite s.disjoint.apart
+          (λ k d below. contradict_more (get_or old k d) base (get_or old k d) opposite (literals_itself (get_or old k d)) opposite_grows
+          (s.against (get_or old k d) (Contains-get_or old k d below)));
+      possible = λ part h. elim (Contains-push_cases old opposite part h) [
+        | inl before ↦ s.disjoint.possible part before
+        | inr same ↦ subst IsPossible same
+            (with_possible base opposite name (not negated) against (λ l. lacks (subst (HasLiteral base name) (twice negated) l)) s.base_possible)
+      ];
+    };
+    against = λ part h. elim (Contains-push_cases old opposite part h) [
+      | inl before ↦ contradict_more part base part more (literals_itself part) more_grows (s.against part before)
+      | inr same ↦ subst (λ (c : Cube). AreContradictory c more) same
+          (contradict_back more opposite (clash more opposite name negated ((is name negated).1 (inr (refl, refl))) ((against name (not negated)).1 (inr (refl, refl)))))
+    ];
+    base_possible = with_possible base more name negated is (λ l. s.agree (contradict_back other base (clash other base name negated there l))) s.base_possible;
+    agree = with_agrees base more other name negated is (λ l. possible (clash other other name negated there l)) s.agree;
+  };
+  names = λ P of_other of_base of_old. (
+    λ n s l. elim ((is n s).0 l) [ inl old ↦ of_base n s old | inr new ↦ subst (λ (m : ℕ). IsTrue (P m)) (sym new.0) (of_other name negated there) ],
+    λ part h. elim (Contains-push_cases old opposite part h) [
+      | inl before ↦ of_old part before
+      | inr same ↦ subst (IsOver P) same (λ n s l. elim ((against n s).0 l) [ inl old ↦ of_base n s old | inr new ↦ subst (λ (m : ℕ). IsTrue (P m)) (sym new.0) (of_other name negated there) ])
+    ],
+  );
+}
+  where
+    more_grows : HasLiterals base more
+    more_grows n s l = (is n s).1 (inl l)
+
+    opposite_grows : HasLiterals base opposite
+    opposite_grows n s l = (against n s).1 (inl l)
+
+    twice : (b : Bool) → not (not b) ≡ b
+    twice true = refl
+    twice false = refl
+
+-- or none is: the literal is there, or the other lacks it
+pub negation_skipped : (base other : Cube) (name : ℕ) (negated : Bool) (old : List Cube) → (HasLiteral other name negated → HasLiteral base name negated)
+    → AddsNegation base other name negated base old old
+negation_skipped base other name negated old there = record {
+  keeps = λ part h. h;
+  only = λ part h. inl h;
+  grows = literals_itself base;
+  has = there;
+  covers = λ letter all. inl all;
+  split = λ possible s. s;
+  names = λ P of_other of_base of_old. (of_base, of_old);
 }
 
 -- the loop over names: the cube so far has the literals of the other below a name
@@ -68,6 +126,8 @@ pub record IsSoFar (cube other base : Cube) (count : ℕ) (old now : List Cube) 
   pub grows : HasLiterals cube base
   pub has : (name : ℕ) (negated : Bool) → name < count → HasLiteral other name negated → HasLiteral base name negated
   pub covers : (letter : ℕ → Bool) → IsCubeTrue letter cube → IsCubeTrue letter base ⊎ SomeCubeTrue letter now
+  pub split : IsPossible other → IsSplitting other cube old → IsSplitting other base now
+  pub names : (P : ℕ → Bool) → IsOver P other → IsOver P cube → AllOver P old → IsOver P base × AllOver P now
 
 pub so_far_none : (cube other : Cube) (old : List Cube) → IsSoFar cube other cube 0 old old
 so_far_none cube other old = record {
@@ -76,6 +136,8 @@ so_far_none cube other old = record {
   grows = literals_itself cube;
   has = λ name negated low h. absurd (omega arith);
   covers = λ letter all. inl all;
+  split = λ possible s. s;
+  names = λ P of_other of_cube of_old. (of_cube, of_old);
 }
 
 pub negations_added : (base other middle more : Cube) (name : ℕ) (old half new : List Cube) → AddsNegation base other name false middle old half
@@ -92,6 +154,8 @@ negations_added base other middle more name old half new a b = record {
     | inl middle_true ↦ b.covers letter middle_true
     | inr some ↦ inr (some_more letter half new b.keeps some)
   ];
+  split = λ possible s. b.split possible (a.split possible s);
+  names = λ P of_other of_base of_old. let one = a.names P of_other of_base of_old in b.names P of_other one.0 one.1;
 }
   where
     has : (negated : Bool) → HasLiteral other name negated → HasLiteral more name negated
@@ -112,6 +176,8 @@ so_far_more cube other base more name old now new far a = record {
     | inl base_true ↦ a.covers letter base_true
     | inr some ↦ inr (some_more letter now new a.keeps some)
   ];
+  split = λ possible s. a.split possible (far.split possible s);
+  names = λ P of_other of_cube of_old. let one = far.names P of_other of_cube of_old in a.names P of_other one.0 one.1;
 }
   where
     has : (n : ℕ) (negated : Bool) → n < name + 1 → HasLiteral other n negated → HasLiteral more n negated
@@ -120,15 +186,17 @@ so_far_more cube other base more name old now new far a = record {
       | inr reached ↦ (let same : name ≡ n = omega arith in subst (λ (m : ℕ). HasLiteral other m negated → HasLiteral more m negated) same (a.has negated) h)
     ]
 
-pub so_far_all : (cube other base : Cube) (old new : List Cube) → ((place : ℕ) → IsTrue (is_set other.positive place) → place < 64)
+pub so_far_all : (cube other base : Cube) (old new : List Cube) → (AreContradictory cube other → ⊥) → ((place : ℕ) → IsTrue (is_set other.positive place) → place < 64)
     → ((place : ℕ) → IsTrue (is_set other.negative place) → place < 64) → IsSoFar cube other base 64 old new → AddsWithout cube other old new
-so_far_all cube other base old new positive negative far = record {
+so_far_all cube other base old new agree positive negative far = record {
   keeps = far.keeps;
   only = far.only;
   covers = λ letter all. elim (far.covers letter all) [
     | inl base_true ↦ inl (λ n s h. base_true n s (far.has n s (within n s h) h))
     | inr some ↦ inr some
   ];
+  split = λ possible own disjoint against. (far.split possible (record { disjoint = disjoint; against = against; base_possible = own; agree = agree })).disjoint;
+  names = λ P of_other of_cube of_old. (far.names P of_other of_cube of_old).1;
 }
   where
     within : (n : ℕ) (s : Bool) → HasLiteral other n s → n < 64
@@ -144,10 +212,40 @@ without_apart cube other old = record {
     | inr same ↦ inr (subst (HasLiterals cube) same (literals_itself cube))
   ];
   covers = λ letter all. inr (cube, Contains-push old cube, all);
+  split = λ possible own disjoint against. record {
+    apart = all_pairs_push AreContradictory old cube disjoint.apart (λ k d below. against (get_or old k d) (Contains-get_or old k d below));
+    possible = λ part h. elim (Contains-push_cases old cube part h) [ inl before ↦ disjoint.possible part before | inr same ↦ subst IsPossible same own ];
+  };
+  names = λ P of_other of_cube of_old part h. elim (Contains-push_cases old cube part h) [ inl before ↦ of_old part before | inr same ↦ subst (IsOver P) same of_cube ];
 }
 
+-- two cubes that can be joined
+pub agree_joined : (found : Option Cube) (A : Type 0) → is_some found ≡ true → IfSome found (λ cube. A) → A
+agree_joined None A some agree = absurd (false≢true some)
+agree_joined (Some cube) A some agree = agree
+
 pub without_none : (other : Cube) → AreWithout [] other []
-without_none other = record { only = λ part h. absurd (omega (arith, h.1)); covers = λ letter some. absurd (omega (arith, some.1.1)) }
+without_none other = record {
+  only = λ part h. absurd (omega (arith, h.1));
+  covers = λ letter some. absurd (omega (arith, some.1.1));
+  split = λ possible disjoint. disjoint;
+  names = λ P of_other of_cubes. of_cubes;
+}
+
+-- the last of disjoint cubes, and those before it
+front_disjoint : (cubes : List Cube) (cube : Cube) → AreDisjoint (cubes ++ cube ∷ []) → AreDisjoint cubes
+front_disjoint cubes cube are = record {
+  apart = λ i j d lt within. subst (λ (c : Cube). AreContradictory c (get_or cubes j d)) (get_or_append_left cubes (cube ∷ []) d i (omega (arith, lt, within)))
+      (subst (AreContradictory (get_or (cubes ++ cube ∷ []) i d)) (get_or_append_left cubes (cube ∷ []) d j within)
+      (are.apart i j d lt (omega (arith, within, length_push cubes cube))));
+  possible = λ c h. are.possible c (Contains-append_left cubes (cube ∷ []) c h);
+}
+
+last_apart : (cubes : List Cube) (cube one : Cube) → AreDisjoint (cubes ++ cube ∷ []) → Contains cubes one → AreContradictory one cube
+last_apart cubes cube one are h =
+    subst (λ (c : Cube). AreContradictory c cube) (get_or_append_left cubes (cube ∷ []) one h.0 h.1 ∙ h.2)
+    (subst (AreContradictory (get_or (cubes ++ cube ∷ []) h.0 one)) (get_or_at cubes cube [] one (length cubes) refl)
+    (are.apart h.0 (length cubes) one h.1 (omega (arith, length_push cubes cube))))
 
 pub without_more : (cubes : List Cube) (cube other : Cube) (left new : List Cube) → AreWithout cubes other left → AddsWithout cube other left new → AreWithout (cubes ++ cube ∷ []) other new
 without_more cubes cube other left new a b = record {
@@ -162,6 +260,9 @@ without_more cubes cube other left new a b = record {
     ]
     | inr same ↦ b.covers letter (subst (IsCubeTrue letter) (sym same) some.2)
   ];
+  split = λ possible disjoint. b.split possible (disjoint.possible cube (Contains-push cubes cube)) (a.split possible (front_disjoint cubes cube disjoint))
+      (λ part h. let from = a.only part h in contradict_more from.0 cube part cube from.2 (literals_itself cube) (last_apart cubes cube from.0 disjoint from.1));
+  names = λ P of_other of_cubes. b.names P of_other (of_cubes cube (Contains-push cubes cube)) (a.names P of_other (λ c h. of_cubes c (Contains-append_left cubes (cube ∷ []) c h)));
 }
 
 -- the same for the cube that a loop reads
@@ -179,6 +280,11 @@ left_none edge = record {
     | inr same ↦ subst (HasLiterals edge.cube) same (literals_itself edge.cube)
   ];
   covers = λ letter all. inr (edge.cube, (0, omega arith, refl), all);
+  split = λ before own. record {
+    apart = λ i j d lt within. absurd (omega (arith, lt, within));
+    possible = λ part h. elim (Contains-push_cases [] edge.cube part h) [ inl none ↦ absurd (omega (arith, none.1)) | inr same ↦ subst IsPossible same own ];
+  };
+  names = λ P before own part h. elim (Contains-push_cases [] edge.cube part h) [ inl none ↦ absurd (omega (arith, none.1)) | inr same ↦ subst (IsOver P) same own ];
 }
 
 pub left_skipped : (before : List Term) (less edge : Term) (cubes : List Cube) → AreLeft before edge cubes → AreLeft (before ++ less ∷ []) edge cubes
@@ -188,6 +294,8 @@ left_skipped before less edge cubes a = record {
     | inl found ↦ inl (found.0, Contains-append_left before (less ∷ []) found.0 found.1, found.2, found.3)
     | inr some ↦ inr some
   ];
+  split = λ possible own. a.split (λ t h. possible t (Contains-append_left before (less ∷ []) t h)) own;
+  names = λ P of_before own. a.names P (λ t h. of_before t (Contains-append_left before (less ∷ []) t h)) own;
 }
 
 pub left_more : (before : List Term) (less edge : Term) (cubes new : List Cube) → AsksNoMore less edge → AreLeft before edge cubes → AreWithout cubes less.cube new
@@ -201,6 +309,8 @@ left_more before less edge cubes new no_more a b = record {
       | inr rest ↦ inr rest
     ]
   ];
+  split = λ possible own. b.split (possible less (Contains-push before less)) (a.split (λ t h. possible t (Contains-append_left before (less ∷ []) t h)) own);
+  names = λ P of_before own. b.names P (of_before less (Contains-push before less)) (a.names P (λ t h. of_before t (Contains-append_left before (less ∷ []) t h)) own);
 }
 
 -- a term that asks for no more than a good one is good where its cube is true
@@ -215,7 +325,14 @@ good_lesser strongs v i less edge no_more sure good = record {
 }
 
 pub pushed_none : (edge : Term) (old : List Term) → ArePushed edge [] old old
-pushed_none edge old = record { keeps = λ part h. h; only = λ part h. inl h; each = λ cube h. absurd (omega (arith, h.1)) }
+pushed_none edge old = record {
+  keeps = λ part h. h;
+  only = λ part h. inl h;
+  each = λ cube h. absurd (omega (arith, h.1));
+  more = [];
+  behind = sym (append-nil old);
+  zipped = tt;
+}
 
 pub pushed_more : (edge : Term) (cubes : List Cube) (cube : Cube) (part : Term) (old now : List Term) → ArePushed edge cubes old now → IsPart edge cube part
     → ArePushed edge (cubes ++ cube ∷ []) old (now ++ part ∷ [])
@@ -232,6 +349,9 @@ pushed_more edge cubes cube part old now a is = record {
     | inl before ↦ (let from = a.each c before in (from.0, Contains-append_left now (part ∷ []) from.0 from.1, from.2))
     | inr same ↦ (part, Contains-push now part, subst (λ (x : Cube). IsPart edge x part) same is)
   ];
+  more = a.more ++ part ∷ [];
+  behind = ap (λ (ts : List Term). ts ++ part ∷ []) a.behind ∙ append_assoc old a.more (part ∷ []);
+  zipped = all_zipped_more (IsPart edge) cubes a.more cube part a.zipped is;
 }
 
 pub pushed_read : (edge : Term) (cubes : List Cube) (i : ℕ) (d : Cube) (part : Term) (old now new : List Term) → i < length cubes → ArePushed edge (take i cubes) old now
@@ -239,6 +359,50 @@ pub pushed_read : (edge : Term) (cubes : List Cube) (i : ℕ) (d : Cube) (part :
 pushed_read edge cubes i d part old now new low a is same =
     subst (λ (xs : List Cube). ArePushed edge xs old new) (take_read cubes i (get_or cubes i d) low (get_or_same cubes i d low))
     (subst (ArePushed edge (take i cubes ++ get_or cubes i d ∷ []) old) (sym same) (pushed_more edge (take i cubes) (get_or cubes i d) part old now a is))
+
+-- what a zipped item is of
+zipped_back : {X Y : Type 0} (R : X → Y → Type 0) (xs : List X) (ys : List Y) → AllZip R xs ys → (y : Y) → Contains ys y → (x : X) × Contains xs x × R x y
+zipped_back R [] [] z y h = absurd (omega (arith, h.1))
+zipped_back R [] (first ∷ ys) z y h = absurd z
+zipped_back R (x ∷ xs) [] z y h = absurd z
+zipped_back R (x ∷ xs) (first ∷ ys) z y h = elim (Contains-append_cases (first ∷ []) ys y h) [
+  | inl here ↦ elim (Contains-push_cases [] first y here) [
+    | inl none ↦ absurd (omega (arith, none.1))
+    | inr same ↦ (x, (0, omega arith, refl), subst (R x) same z.0)
+  ]
+  | inr rest ↦ (let from = zipped_back R xs ys z.1 y rest in (from.0, Contains-append_right (x ∷ []) xs from.0 from.1, from.2))
+]
+
+zipped_long : {X Y : Type 0} (R : X → Y → Type 0) (xs : List X) (ys : List Y) → AllZip R xs ys → length xs ≡ length ys
+zipped_long R [] [] z = refl
+zipped_long R [] (y ∷ ys) z = absurd z
+zipped_long R (x ∷ xs) [] z = absurd z
+zipped_long R (x ∷ xs) (y ∷ ys) z = ap (λ (n : ℕ). suc n) (zipped_long R xs ys z.1)
+
+zipped_at : {X Y : Type 0} (R : X → Y → Type 0) (xs : List X) (ys : List Y) (i : ℕ) (c : X) (d : Y) → AllZip R xs ys → i < length ys → R (get_or xs i c) (get_or ys i d)
+zipped_at R [] [] i c d z low = absurd (omega (arith, low))
+zipped_at R [] (y ∷ ys) i c d z low = absurd z
+zipped_at R (x ∷ xs) [] i c d z low = absurd z
+zipped_at R (x ∷ xs) (y ∷ ys) zero c d z low = z.0
+zipped_at R (x ∷ xs) (y ∷ ys) (suc i) c d z low = zipped_at R xs ys i c d z.1 (omega (arith, low))
+
+-- the parts of an edge for disjoint cubes are pieces of it
+parts_pieces : (edge : Term) (cubes : List Cube) (parts : List Term) → ((cube : Cube) → Contains cubes cube → HasLiterals edge.cube cube) → AllZip (IsPart edge) cubes parts → AreDisjoint cubes
+    → ArePieces edge parts
+parts_pieces edge cubes parts only zipped disjoint = record {
+  each = λ part h. let from = zipped_back (IsPart edge) cubes parts zipped part h in record {
+    literals = subst (HasLiterals edge.cube) (sym from.2.cube_is) (only from.0 from.1);
+    next = from.2.next;
+    late = from.2.late;
+  };
+  possible = λ part h. let from = zipped_back (IsPart edge) cubes parts zipped part h in subst IsPossible (sym from.2.cube_is) (disjoint.possible from.0 from.1);
+  disjoint = λ i j d lt within.
+      let long : length cubes ≡ length parts = zipped_long (IsPart edge) cubes parts zipped in
+      let one = (zipped_at (IsPart edge) cubes parts i edge.cube d zipped (omega (arith, lt, within))).cube_is in
+      let other = (zipped_at (IsPart edge) cubes parts j edge.cube d zipped within).cube_is in
+      subst (λ (c : Cube). AreContradictory c (get_or parts j d).cube) (sym one)
+      (subst (AreContradictory (get_or cubes i edge.cube)) (sym other) (disjoint.apart i j edge.cube lt (omega (arith, within, long))));
+}
 
 pub parts_added : (before : List Term) (edge : Term) (cubes : List Cube) (old new : List Term) → AreLeft before edge cubes → ArePushed edge cubes old new → AddsParts before edge old new
 parts_added before edge cubes old new left pushed = record {
@@ -256,6 +420,11 @@ parts_added before edge cubes old new left pushed = record {
     | inr some ↦ inr (let part = pushed.each some.0 some.1 in
         (part.0, part.1, good_lesser strongs v i part.0 edge (asks edge some.0 part.0 part.2) (subst (IsCubeTrue (v.held i)) (sym part.2.cube_is) some.2) one))
   ];
+  pieces = pushed.more;
+  behind = pushed.behind;
+  split = λ possible own. parts_pieces edge cubes pushed.more left.only pushed.zipped (left.split possible own);
+  names = λ P of_before own part h. let from = zipped_back (IsPart edge) cubes pushed.more pushed.zipped part h in
+      subst (IsOver P) (sym from.2.cube_is) (left.names P of_before own from.0 from.1);
 }
   where
     asks : (edge : Term) (cube : Cube) (part : Term) → IsPart edge cube part → AsksNoMore part edge
@@ -285,6 +454,23 @@ split_more before edge parts new a b = record {
   where
     kept : (shapes : List Shape) (strongs : List ℕ) (v : Valuation shapes) (i : ℕ) → HasGood strongs v i parts → HasGood strongs v i new
     kept shapes strongs v i has = (has.0, b.keeps has.0 has.1, has.2)
+
+-- in their order
+pub order_none : AreSplitInOrder [] []
+order_none = record { pieces = []; split = λ possible. tt; all = refl; names = λ P of_edges. of_edges }
+
+pub order_more : (before : List Term) (edge : Term) (parts new : List Term) → AreSplitInOrder before parts → AddsParts before edge parts new → AreSplitInOrder (before ++ edge ∷ []) new
+order_more before edge parts new a b = record {
+  pieces = a.pieces ++ b.pieces ∷ [];
+  split = λ possible. all_zipped_more ArePieces before a.pieces edge b.pieces (a.split (λ t h. possible t (Contains-append_left before (edge ∷ []) t h)))
+      (b.split (λ t h. possible t (Contains-append_left before (edge ∷ []) t h)) (possible edge (Contains-push before edge)));
+  all = b.behind ∙ ap (λ (ts : List Term). ts ++ b.pieces) a.all
+      ∙ sym (flat_map-append (λ (row : List Term). row) a.pieces (b.pieces ∷ []) ∙ ap (λ (ts : List Term). flat_map (λ (row : List Term). row) a.pieces ++ ts) (append-nil b.pieces));
+  names = λ P of_edges part h. elim (Contains-append_cases parts b.pieces part (subst (λ (ts : List Term). Contains ts part) b.behind h)) [
+    | inl there ↦ a.names P (λ t k. of_edges t (Contains-append_left before (edge ∷ []) t k)) part there
+    | inr added ↦ b.names P (λ t k. of_edges t (Contains-append_left before (edge ∷ []) t k)) (of_edges edge (Contains-push before edge)) part added
+  ];
+}
 
 pub split_same : (xs ys parts : List Term) → ((t : Term) → Contains xs t → Contains ys t) → ((t : Term) → Contains ys t → Contains xs t) → AreSplit xs parts → AreSplit ys parts
 split_same xs ys parts there back a = record {

@@ -6,5 +6,6 @@ pub mod Products
 pub mod Tables
 pub mod Meeting
 pub mod Needed
+pub mod Pieces
 pub mod Closing
 pub mod private

@@ -3,9 +3,10 @@
 ghost use Rattle.std.specs.Prelude.{◌↔◌, ◌<◌, [], ◌∷◌, ◌++◌, ℕ, List, IfOk, IsOkUnless, IsTrue, OnOk};
 ghost use Rattle.omega_ltl_shapes.specs.Covers.{is_set};
 ghost use Rattle.omega_ltl_shapes.specs.declared.term.Term.{Term};
+ghost use Rattle.omega_ltl_terms.specs.Pieces.{AreInPieces};
 ghost use Rattle.omega_ltl_terms.specs.private.Splitting.{AddsNegation, AddsNegations, AddsParts};
-ghost use Rattle.omega_ltl_terms.specs.private.Splitting.{AddsWithout, AreLeft, ArePushed, AreSplit};
-ghost use Rattle.omega_ltl_terms.specs.private.Splitting.{AreWithout};
+ghost use Rattle.omega_ltl_terms.specs.private.Splitting.{AddsWithout, AllPossible, AreLeft, ArePushed, AreSplit};
+ghost use Rattle.omega_ltl_terms.specs.private.Splitting.{AreSplitInOrder, AreWithout};
 ghost use Rattle.omega_ltl_terms.specs.private.Splitting.{AsksNoMore, IsLesser, IsPart};
 
 use omega_ltl_shapes::{Cube, Term, has_bits_of, has_items};
@@ -18,6 +19,8 @@ use std::alloc::{AllocError, Global};
 /// can be taken one still can.
 pub(crate) fn split(alloc: Global, edges: Vec<Term>) -> Result<Vec<Term>, Refusal>
     ensures split { IfOk result (λ parts. AreSplit edges.items parts.items) }
+    ensures pieces { IfOk result
+        (λ parts. AllPossible edges.items → AreInPieces edges.items parts.items) }
     ensures memory { IsOkUnless result Refusal.Memory }
 {
     let mut edges = edges;
@@ -28,6 +31,7 @@ pub(crate) fn split(alloc: Global, edges: Vec<Term>) -> Result<Vec<Term>, Refusa
 /// Returns the edges with the letters taken away at which a lesser one before them can be taken.
 fn split_in_order(alloc: Global, edges: &[Term]) -> Result<Vec<Term>, Refusal>
     ensures split { IfOk result (λ parts. AreSplit edges.now parts.items) }
+    ensures pieces { IfOk result (λ parts. AreSplitInOrder edges.now parts.items) }
     ensures memory { IsOkUnless result Refusal.Memory }
 {
     let mut parts = Vec::new(alloc);

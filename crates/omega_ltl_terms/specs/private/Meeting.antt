@@ -81,6 +81,7 @@ pub record AddsClosed (shapes : List Shape) (strongs : List ℕ) (edge : Term) (
 -- each of some edges is
 pub record ClosesAll (shapes : List Shape) (strongs : List ℕ) (edges new : List Term) : Type 0 where
   pub short : length new ≤ length edges
+  pub apart : AreApart new
   pub only : (added : Term) → Contains new added
       → (edge : Term) × Contains edges edge × IsClosedEdge shapes strongs edge added
   pub good : HasRoom edges → (v : Valuation shapes) (i : ℕ) → HasGood strongs v i edges

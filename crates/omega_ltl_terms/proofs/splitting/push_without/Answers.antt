@@ -1,8 +1,9 @@
 -- the literals of one name more
-use Rattle.std.proofs.Common.{◌≡◌, ℕ, subst, sym, arith}
+use Rattle.std.proofs.Common.{◌≡◌, ℕ, not, ap, subst, sym, ◌∙◌, arith}
+use Rattle.omega_ltl_shapes.specs.Terms.{AreContradictory}
 use Rattle.omega_ltl_terms.specs.private.Splitting.{AddsWithout}
 use Rattle.omega_ltl_terms.proofs.SplittingLemmas.{IsSoFar, so_far_all, so_far_more, so_far_none}
-use Rattle.omega_ltl_terms.proofs.SplittingLemmas.{without_apart}
+use Rattle.omega_ltl_terms.proofs.SplittingLemmas.{agree_joined, without_apart}
 use Rattle.omega_ltl_terms.proofs.splitting.push_without.Goals as goal
 
 pub loop-name-init : goal.loop-name-init
@@ -17,5 +18,6 @@ returns-then-is_none c = subst (AddsWithout c.args.cube c.args.other c.args.left
 
 pub returns : goal.returns
 returns c =
-    so_far_all c.args.cube c.args.other c.loop-name.base c.args.left.now.items c.loop-name.left.items c.bits_are_below.ensures c.bits_are_below-2.ensures
+    so_far_all c.args.cube c.args.other c.loop-name.base c.args.left.now.items c.loop-name.left.items
+    (agree_joined c.join.result (AreContradictory c.args.cube c.args.other → ⊥) (c.is_none.ensures ∙ ap not c.if-is_none.false) c.join.ensures.agree) c.bits_are_below.ensures c.bits_are_below-2.ensures
     (subst (λ (n : ℕ). IsSoFar c.args.cube c.args.other c.loop-name.base n c.args.left.now.items c.loop-name.left.items) (let e : c.loop-name.name ≡ 64 = omega arith in e) c.loop-name.invariant)
