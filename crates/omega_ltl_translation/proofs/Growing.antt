@@ -54,7 +54,7 @@ module _ (G : List ℕ → Type 0) (old new : List (List ℕ)) (adds : AddsState
     terms = are.terms;
     right = are.right;
     enough = are.enough;
-    leads = are.leads;
+    pieces = are.pieces;
     numbered = numbered_kept are.terms edges are.numbered;
   }
 

@@ -8,7 +8,7 @@ use Rattle.std.proofs.lemmas.List.Quantifiers.{all_pairs_push}
 use Rattle.omega_ltl_shapes.specs.declared.shape.Shape.{Shape}
 use Rattle.omega_ltl_shapes.specs.declared.term.Term.{Term}
 use Rattle.omega_ltl_shapes.proofs.ItemLemmas.{take_read}
-use Rattle.omega_ltl_terms.specs.Meeting.{LeadOn}
+use Rattle.omega_ltl_terms.specs.Pieces.{AreEdges}
 use Rattle.omega_ltl_translation.specs.Limits.{most_labelled_edges}
 use Rattle.omega_ltl_translation.specs.PastLimits.{AreOnce, AreReached, HaveEdges, IsGraphTooLarge, IsReached, IsStart, many_edges, many_states, more_edges, reached_next, reached_start}
 use Rattle.omega_ltl_translation.specs.declared.graph.GraphEdge.{GraphEdge}
@@ -60,11 +60,11 @@ first_kept G old new count low adds = ap (take count) adds.behind ∙ take-appen
 
 -- the edges of one state more
 pub edges_counted : (shapes : List Shape) (strongs : List ℕ) (states : List (List ℕ)) (number count : ℕ) (edges : List Term) → number < length states
-    → HaveEdges shapes strongs (take number states) count → LeadOn shapes strongs (state_of states number) edges
+    → HaveEdges shapes strongs (take number states) count → AreEdges shapes strongs (state_of states number) edges
     → HaveEdges shapes strongs (take (number + 1) states) (count + length edges)
-edges_counted shapes strongs states number count edges low have leads =
+edges_counted shapes strongs states number count edges low have are =
     subst (λ (xs : List (List ℕ)). HaveEdges shapes strongs xs (count + length edges)) (take_read states number (state_of states number) low (sym (get_or_default states number (state_of states number) [] low)))
-    (more_edges (take number states) (state_of states number) count edges have leads)
+    (more_edges (take number states) (state_of states number) count edges have are)
 
 pub counted_more : (shapes : List Shape) (strongs : List ℕ) (G : List ℕ → Type 0) (old new : List (List ℕ)) (edges : List (List GraphEdge)) (row : List GraphEdge) → length edges < length old
     → AddsStates G old new → AreEdgesOf shapes strongs new (state_of old (length edges)) row → HaveEdges shapes strongs (take (length edges) old) (sum_by length edges)
@@ -74,8 +74,8 @@ counted_more shapes strongs G old new edges row low adds is have =
     let within : number < length new = omega (arith, low, longer G old new adds) in
     let before : HaveEdges shapes strongs (take number new) (sum_by length edges) =
     subst (λ (xs : List (List ℕ)). HaveEdges shapes strongs xs (sum_by length edges)) (sym (first_kept G old new number (omega (arith, low)) adds)) have in
-    let leads : LeadOn shapes strongs (state_of new number) is.terms = subst (λ (s : List ℕ). LeadOn shapes strongs s is.terms) (sym (state_kept G old new adds number low)) is.leads in
-    let after : HaveEdges shapes strongs (take (number + 1) new) (sum_by length edges + length is.terms) = edges_counted shapes strongs new number (sum_by length edges) is.terms within before leads in
+    let pieces : AreEdges shapes strongs (state_of new number) is.terms = subst (λ (s : List ℕ). AreEdges shapes strongs s is.terms) (sym (state_kept G old new adds number low)) is.pieces in
+    let after : HaveEdges shapes strongs (take (number + 1) new) (sum_by length edges + length is.terms) = edges_counted shapes strongs new number (sum_by length edges) is.terms within before pieces in
     let total : sum_by length edges + length is.terms ≡ sum_by length (edges ++ row ∷ []) = ap (λ (n : ℕ). sum_by length edges + n) (sym is.numbered.count) ∙ sym (sum_by_push length edges row) in
     subst (λ (n : ℕ). HaveEdges shapes strongs (take n new) (sum_by length (edges ++ row ∷ []))) (sym (length_push edges row))
     (subst (HaveEdges shapes strongs (take (number + 1) new)) total after)

@@ -1,12 +1,15 @@
 -- When the automaton of a formula passes a limit.
 use Rattle.std.specs.Prelude.{◌≡◌, ◌<◌, ◌+◌, ℕ, Bool, List, [], ◌∷◌, ◌++◌, length, AllPairs, Contains}
 use Rattle.omega_ltl_formula.specs.Table.{NumberedFormula}
+use Rattle.omega_ltl_shapes.specs.Graphs.{IsStrong}
 use Rattle.omega_ltl_shapes.specs.Shapes.{AreShapesOf, demand}
 use Rattle.omega_ltl_shapes.specs.declared.shape.Shape.{Shape}
 use Rattle.omega_ltl_shapes.specs.declared.term.Term.{Term}
 use Rattle.omega_ltl_terms.specs.Closing.{AreNeverTrue, IsClosedSet}
-use Rattle.omega_ltl_terms.specs.Meeting.{IsStateTooLarge, LeadOn, LeadsTo}
-use Rattle.omega_ltl_terms.specs.Needed.{HaveSets}
+use Rattle.omega_ltl_terms.specs.Limits.{most_sets}
+use Rattle.omega_ltl_terms.specs.Meeting.{HasManyEdgeTerms, LeadsTo}
+use Rattle.omega_ltl_terms.specs.Needed.{HaveSets, IsNeeded}
+use Rattle.omega_ltl_terms.specs.Pieces.{AreEdges}
 use Rattle.omega_ltl_terms.specs.Tables.{AreStrongs, HasLargeDemand}
 use Rattle.omega_ltl_translation.specs.Limits.{most_labelled_edges, most_states}
 
@@ -35,13 +38,21 @@ pub record AreReached (shapes : List Shape) (strongs : List ℕ) (root : ℕ) (s
 pub data HaveEdges (shapes : List Shape) (strongs : List ℕ) : List (List ℕ) → ℕ → Type 0 where
   no_edges : HaveEdges shapes strongs [] 0
   more_edges : (states : List (List ℕ)) (state : List ℕ) (count : ℕ) (edges : List Term)
-      → HaveEdges shapes strongs states count → LeadOn shapes strongs state edges
+      → HaveEdges shapes strongs states count → AreEdges shapes strongs state edges
       → HaveEdges shapes strongs (states ++ state ∷ []) (count + length edges)
+
+-- over the limit of promises are needed for a demand: strong demands, each listed once
+pub record HasManyPromises (shapes : List Shape) (root : ℕ) : Type 0 where
+  pub promises : List ℕ
+  pub needed : (d : ℕ) → Contains promises d → IsNeeded shapes root d
+  pub strong : (d : ℕ) → Contains promises d → IsStrong shapes d
+  pub once : AllPairs (λ one other. one ≡ other → ⊥) promises
+  pub many : most_sets < length promises
 
 -- why the states of the automaton of a demand and their edges pass a limit: the edges of one, or how many there are
 pub data IsGraphTooLarge (shapes : List Shape) (strongs : List ℕ) (root : ℕ) : Type 0 where
   large_state : (state : List ℕ) → IsReached shapes strongs root state
-      → IsStateTooLarge shapes strongs state → IsGraphTooLarge shapes strongs root
+      → HasManyEdgeTerms shapes strongs state → IsGraphTooLarge shapes strongs root
   many_states : (states : List (List ℕ)) → AreReached shapes strongs root states
       → most_states < length states → IsGraphTooLarge shapes strongs root
   many_edges : (states : List (List ℕ)) (count : ℕ) → AreReached shapes strongs root states
@@ -51,6 +62,8 @@ pub data IsGraphTooLarge (shapes : List Shape) (strongs : List ℕ) (root : ℕ)
 -- the automaton of a formula, or of its negation, passes a limit
 pub data IsPastLimits (formula : NumberedFormula) (negated : Bool) : Type 0 where
   large_demand : HasLargeDemand formula.table.nodes → IsPastLimits formula negated
+  many_promises : (shapes : List Shape) → AreShapesOf formula.table.nodes shapes
+      → HasManyPromises shapes (demand formula.root negated) → IsPastLimits formula negated
   large_graph : (shapes : List Shape) (strongs : List ℕ) → AreShapesOf formula.table.nodes shapes
       → AreStrongs shapes strongs → HaveSets shapes (demand formula.root negated) strongs
       → IsGraphTooLarge shapes strongs (demand formula.root negated) → IsPastLimits formula negated

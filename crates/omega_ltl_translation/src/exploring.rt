@@ -11,7 +11,7 @@ ghost use Rattle.omega_ltl_translation.specs.Limits.{most_states};
 ghost use Rattle.omega_ltl_translation.specs.PastLimits.{AreReached, HaveEdges, IsGraphTooLarge, IsStart};
 ghost use Rattle.omega_ltl_translation.specs.private.Graphs.{AddsStates, AreEdgesOf, AreNumbered, AreStates};
 ghost use Rattle.omega_ltl_translation.specs.private.Graphs.{GrowTooMany, IsExplored, IsNext, IsStateNumber};
-ghost use Rattle.omega_ltl_translation.specs.private.Graphs.{IsWithState, state_of, states_of};
+ghost use Rattle.omega_ltl_translation.specs.private.Graphs.{IsWithState, LacksNeededSet, state_of, states_of};
 
 use crate::graph::{Graph, GraphEdge};
 use crate::limits::{MOST_EDGES, MOST_STATES};
@@ -34,7 +34,8 @@ pub(crate) fn explore(alloc: Global, tables: &Tables, root: u32) -> Result<Graph
     ensures counted { IfOk result (λ graph. HaveEdges tables.now.shapes tables.now.strongs
         graph.states.items (sum_by length graph.edges.items)) }
     ensures refused { IfErr result
-        (IsLargeBy (IsGraphTooLarge tables.now.shapes tables.now.strongs root)) }
+        (IsLargeBy (IsGraphTooLarge tables.now.shapes tables.now.strongs root
+        ⊎ LacksNeededSet tables.now.shapes tables.now.strongs root)) }
 {
     let mut found = IndexSet::new(alloc);
     let mut states = Vec::new(alloc);

@@ -6,7 +6,9 @@ use Rattle.omega_ltl_shapes.specs.Graphs.{AreEnough, AreRight}
 use Rattle.omega_ltl_shapes.specs.declared.shape.Shape.{Shape}
 use Rattle.omega_ltl_shapes.specs.declared.term.Term.{Term}
 use Rattle.omega_ltl_terms.specs.Closing.{Closes}
-use Rattle.omega_ltl_terms.specs.Meeting.{LeadOn, LeadsTo}
+use Rattle.omega_ltl_terms.specs.Meeting.{LacksSet, LeadsTo}
+use Rattle.omega_ltl_terms.specs.Needed.{IsNeeded}
+use Rattle.omega_ltl_terms.specs.Pieces.{AreEdges}
 use Rattle.omega_ltl_translation.specs.Limits.{most_states}
 use Rattle.omega_ltl_translation.specs.PastLimits.{AreOnce}
 use Rattle.omega_ltl_translation.specs.declared.graph.GraphEdge.{GraphEdge}
@@ -40,7 +42,7 @@ pub record AreEdgesOf (shapes : List Shape) (strongs : List ℕ) (states : List 
   pub terms : List Term
   pub right : AreRight shapes strongs state terms
   pub enough : AreEnough shapes strongs state terms
-  pub leads : LeadOn shapes strongs state terms
+  pub pieces : AreEdges shapes strongs state terms
   pub numbered : AreNumbered states terms edges
 
 -- the states are of demands of a table
@@ -75,6 +77,12 @@ pub record GrowTooMany (IsGiven : List ℕ → Type 0) (old : List (List ℕ)) :
 pub record IsNext (shapes : List Shape) (strongs state next : List ℕ) : Type 0 where
   pub leads : LeadsTo shapes strongs state next
   pub below : (d : ℕ) → Contains next d → d < length shapes
+
+-- a demand that is needed for another is strong, and has no set
+pub record LacksNeededSet (shapes : List Shape) (strongs : List ℕ) (root : ℕ) : Type 0 where
+  pub demand : ℕ
+  pub needed : IsNeeded shapes root demand
+  pub lacks : LacksSet shapes strongs demand
 
 -- the states that keys are
 abbrev pub states_of : List (Vec ℕ Global) → List (List ℕ)

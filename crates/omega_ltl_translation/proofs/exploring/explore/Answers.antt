@@ -6,9 +6,10 @@ use Rattle.std.proofs.lemmas.List.Elements.{Contains-get_or}
 use Rattle.std.proofs.lemmas.List.Sums.{sum_by_push}
 use Rattle.omega_ltl_terms.specs.Meeting.{IsStateTooLarge}
 use Rattle.omega_ltl_terms.proofs.Refused.{large_weaker, passed_on}
-use Rattle.omega_ltl_translation.specs.PastLimits.{HaveEdges, IsGraphTooLarge, large_state, many_states, no_edges}
+use Rattle.omega_ltl_translation.specs.PastLimits.{HaveEdges, IsGraphTooLarge, many_states, no_edges}
 use Rattle.omega_ltl_translation.specs.declared.graph.GraphEdge.{GraphEdge}
-use Rattle.omega_ltl_translation.specs.private.Graphs.{AddsStates, AreEdgesOf, GrowTooMany, IsExplored, IsNext, IsStateNumber, state_of}
+use Rattle.omega_ltl_translation.specs.private.Graphs.{AddsStates, AreEdgesOf, GrowTooMany, IsExplored, IsNext, IsStateNumber, LacksNeededSet, state_of}
+use Rattle.omega_ltl_translation.proofs.Needing.{reached_too_large}
 use Rattle.omega_ltl_translation.proofs.Growing.{adds_weaker, explored_more, explored_none, longer}
 use Rattle.omega_ltl_translation.proofs.Reaching.{counted_more, edges_too_large, grown_too_large, reached_first, reached_more}
 use Rattle.omega_ltl_translation.proofs.exploring.explore.Goals as goal
@@ -70,7 +71,7 @@ loop-alloc-preserved c =
 -- over the limit of states
 pub returns-then-len-gt-MOST_STATES-clause-refused : goal.returns-then-len-gt-MOST_STATES-clause-refused
 returns-then-len-gt-MOST_STATES-clause-refused c =
-    (refl, many_states c.loop-alloc.states.items c.loop-alloc.invariant.reached (omega arith))
+    (refl, inl (many_states c.loop-alloc.states.items c.loop-alloc.invariant.reached (omega arith)))
 
 -- the edges of a state, or the states that they lead to
 pub returns-in_err-row-clause-refused : goal.returns-in_err-row-clause-refused
@@ -83,10 +84,10 @@ returns-in_err-row-clause-refused c =
     let state : List ℕ = state_of old at in
     let has : Contains old state = Contains-get_or old at [] low in
     passed_on c.from_residual-in_err-row.result _ _ c.from_residual-in_err-row.ensures.1
-    (large_weaker (IsStateTooLarge shapes strongs state ⊎ GrowTooMany (IsNext shapes strongs state) old) (IsGraphTooLarge shapes strongs c.args.root)
+    (large_weaker (IsStateTooLarge shapes strongs state ⊎ GrowTooMany (IsNext shapes strongs state) old) (IsGraphTooLarge shapes strongs c.args.root ⊎ LacksNeededSet shapes strongs c.args.root)
     (λ why. elim why [
-      | inl large ↦ large_state state (c.loop-alloc.invariant.reached.each state has) large
-      | inr grow ↦ grown_too_large shapes strongs c.args.root state old has c.loop-alloc.invariant.reached grow
+      | inl large ↦ reached_too_large shapes c.args.root strongs state (c.loop-alloc.invariant.reached.each state has) large
+      | inr grow ↦ inl (grown_too_large shapes strongs c.args.root state old has c.loop-alloc.invariant.reached grow)
     ])
     _ c.in_err-row.ensures.refused)
 
@@ -106,8 +107,8 @@ returns-then-count-gt-MOST_EDGES-clause-refused c =
     let adds : AddsStates (IsNext shapes strongs state) old new = subst (λ (k : ℕ). AddsStates (IsNext shapes strongs (state_of old k)) old new) at c.in_ok-row.ensures.adds in
     let total : sum_by length (edges ++ row ∷ []) ≡ sum_by length edges + length row = sum_by_push length edges row in (
       refl,
-      edges_too_large shapes strongs c.args.root new (length (edges ++ row ∷ [])) (sum_by length (edges ++ row ∷ []))
+      inl (edges_too_large shapes strongs c.args.root new (length (edges ++ row ∷ [])) (sum_by length (edges ++ row ∷ []))
           (reached_more shapes strongs c.args.root state old new (Contains-get_or old (length edges) [] low) adds c.loop-alloc.invariant.reached)
           (counted_more shapes strongs (IsNext shapes strongs state) old new edges row low adds is c.loop-alloc.invariant.counted)
-          (omega (arith, c.saturating_add-count.ensures, c.loop-alloc.invariant.count, c.len-in-loop-alloc-4.ensures, c.if-count-gt-MOST_EDGES.true, total)),
+          (omega (arith, c.saturating_add-count.ensures, c.loop-alloc.invariant.count, c.len-in-loop-alloc-4.ensures, c.if-count-gt-MOST_EDGES.true, total))),
     )

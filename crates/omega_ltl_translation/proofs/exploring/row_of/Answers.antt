@@ -5,7 +5,8 @@ use Rattle.std.proofs.lemmas.List.{get_or_default}
 use Rattle.std.proofs.lemmas.Result.{IfErr-weaker, IfOk-weaker, on_ok_weaker}
 use Rattle.omega_ltl_shapes.specs.Graphs.{AreEnough, AreRight}
 use Rattle.omega_ltl_shapes.specs.declared.term.Term.{Term}
-use Rattle.omega_ltl_terms.specs.Meeting.{IsStateTooLarge, LeadOn, LeadsTo}
+use Rattle.omega_ltl_terms.specs.Meeting.{IsStateTooLarge, LeadsTo}
+use Rattle.omega_ltl_terms.specs.Pieces.{AreEdges}
 use Rattle.omega_ltl_terms.proofs.Refused.{large_weaker, passed_on}
 use Rattle.omega_ltl_translation.specs.private.Graphs.{AreNumbered, GrowTooMany, IsNext, state_of}
 use Rattle.omega_ltl_translation.proofs.Growing.{adds_weaker, grow_weaker}
@@ -32,7 +33,7 @@ returns-clause-row c =
       terms = c.in_ok-terms.terms.items;
       right = subst (λ (s : List ℕ). AreRight c.args.tables.now.shapes c.args.tables.now.strongs s c.in_ok-terms.terms.items) state c.in_ok-terms.ensures.right;
       enough = subst (λ (s : List ℕ). AreEnough c.args.tables.now.shapes c.args.tables.now.strongs s c.in_ok-terms.terms.items) state c.in_ok-terms.ensures.enough;
-      leads = subst (λ (s : List ℕ). LeadOn c.args.tables.now.shapes c.args.tables.now.strongs s c.in_ok-terms.terms.items) state c.in_ok-terms.ensures.steps;
+      pieces = subst (λ (s : List ℕ). AreEdges c.args.tables.now.shapes c.args.tables.now.strongs s c.in_ok-terms.terms.items) state c.in_ok-terms.ensures.pieces;
       numbered = subst (λ (xs : List Term). AreNumbered c.numbered.new.states.items xs row) c.as_slice-2.ensures.value numbered;
     })
     c.numbered.ensures.numbered

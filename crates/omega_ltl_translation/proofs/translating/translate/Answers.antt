@@ -1,16 +1,17 @@
 -- the automaton of the graph of the formula is a translation
-use Rattle.std.proofs.Common.{◌≡◌, ◌<◌, ℕ, List, length, sym, subst}
+use Rattle.std.proofs.Common.{◌≡◌, ◌⊎◌, inl, inr, ◌<◌, ℕ, List, length, sym, subst}
 use Rattle.std.specs.Prelude.{sum_by}
 use Rattle.std.proofs.lemmas.Result.{IfErr-weaker, IfOk-weaker}
 use Rattle.omega_ltl_shapes.specs.Shapes.{demand}
 use Rattle.omega_ltl_terms.specs.Tables.{HasLargeDemand}
 use Rattle.omega_ltl_terms.proofs.Refused.{large_weaker, passed_on}
-use Rattle.omega_ltl_translation.specs.PastLimits.{IsGraphTooLarge, IsPastLimits, large_demand, large_graph, many_edges}
+use Rattle.omega_ltl_translation.specs.PastLimits.{IsGraphTooLarge, IsPastLimits, large_demand, large_graph, many_edges, many_promises}
 use Rattle.omega_ltl_translation.specs.Translation.{HasHeader, given_name}
 use Rattle.omega_ltl_translation.specs.declared.graph.GraphEdge.{GraphEdge}
 use Rattle.omega_ltl_translation.specs.private.Automata.{IsAutomatonOf}
-use Rattle.omega_ltl_translation.specs.private.Graphs.{IsExplored}
+use Rattle.omega_ltl_translation.specs.private.Graphs.{IsExplored, LacksNeededSet}
 use Rattle.omega_ltl_translation.proofs.Choosing.{root_below}
+use Rattle.omega_ltl_translation.proofs.Needing.{promises_many}
 use Rattle.omega_ltl_translation.proofs.Translations.{translated}
 use Rattle.omega_ltl_translation.proofs.translating.translate.Goals as goal
 
@@ -54,9 +55,14 @@ returns-in_err-graph-clause-refused c =
     let shapes = c.in_ok-tables.tables.shapes in
     let strongs : List ℕ = c.in_ok-tables.tables.strongs in
     passed_on c.from_residual-in_err-graph.result _ _ c.from_residual-in_err-graph.ensures.1
-    (large_weaker (IsGraphTooLarge shapes strongs c.root_demand-root.result) (IsPastLimits formula c.args.negated)
-    (λ large. large_graph shapes strongs c.in_ok-tables.ensures.shapes c.in_ok-tables.ensures.tables.strongs c.in_ok-tables.ensures.sets
-    (subst (IsGraphTooLarge shapes strongs) c.root_demand-root.ensures large))
+    (large_weaker (IsGraphTooLarge shapes strongs c.root_demand-root.result ⊎ LacksNeededSet shapes strongs c.root_demand-root.result) (IsPastLimits formula c.args.negated)
+    (λ why. elim why [
+      | inl large ↦ large_graph shapes strongs c.in_ok-tables.ensures.shapes c.in_ok-tables.ensures.tables.strongs c.in_ok-tables.ensures.sets
+          (subst (IsGraphTooLarge shapes strongs) c.root_demand-root.ensures large)
+      | inr lacks ↦ many_promises shapes c.in_ok-tables.ensures.shapes
+          (promises_many shapes (demand formula.root c.args.negated) strongs c.in_ok-tables.ensures.tables.strongs c.in_ok-tables.ensures.sets
+          (subst (LacksNeededSet shapes strongs) c.root_demand-root.ensures lacks))
+    ])
     _ c.in_err-graph.ensures.refused)
 
 pub returns-clause-refused : goal.returns-clause-refused
