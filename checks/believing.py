@@ -57,6 +57,12 @@ EXACT = {
         ("omega_laws.specs.JudgedTexts", "FormulaControllersAreJudged", frozenset({"IsFormulaControllerAnswer"})),
     "`omega verify -f --counter-strategy`, the law `formula_counter_strategies_are_judged`":
         ("omega_laws.specs.JudgedTexts", "FormulaCounterStrategiesAreJudged", frozenset({"IsFormulaCounterAnswer"})),
+    "`omega verify -f` of a circuit, the law `formula_circuits_are_judged`":
+        ("omega_laws.specs.JudgedCircuits", "FormulaCircuitsAreJudged", frozenset({"IsFormulaCircuitAnswer"})),
+    "`omega realize -f --aiger`, the law `formula_circuits_are_exact`":
+        ("omega_laws.specs.JudgedCircuits", "FormulaCircuitsAreExact", frozenset({"IsFormulaCircuitWritten"})),
+    "`omega verify --specification` of a circuit, the law `circuits_are_judged`":
+        ("omega_laws.specs.JudgedCircuits", "CircuitsAreJudged", frozenset({"IsCircuitAnswer"})),
     "`omega verify --specification`, the law `controller_answers_are_exact`":
         ("omega_answers_synth.specs.Laws", "ControllerAnswersAreExact", frozenset({"IsControllerAnswer"})),
     "`omega verify --specification --counter-strategy`, the law `counter_answers_are_exact`":
@@ -231,11 +237,11 @@ not among it: they are those of the rows `omega realize` and `omega verify --spe
 
 The rows by a law of one command count what its answer means, and not how it is put: whoever has read what a text of an
 automaton is, and the words of the law, knows what `yes` and `no` say. Refusals are not among it. The row of the command
-counts the answer with its reasons, and all refusals. The laws of `accepts`, `satisfies`, `contained`, `equal`,
-`equal -f` and `verify -f` are said of the automaton that a text describes (`Describes` of `omega_laws`), so that which
-texts are faulty need not be read. That there is such an automaton wherever there is an answer is among them. That all
-automata that one text describes accept the same words is the law `described_automata_are_alike`. The law of
-`realize -f` has no automaton and no game: it needs what a formula means, and what strategies over its names are.
+counts the answer with its reasons, and all refusals. The laws of `omega_laws` on one command are said of the automaton
+that a text describes (`Describes`), so that which texts are faulty need not be read. That there is such an automaton
+wherever there is an answer is among them. That all automata that one text describes accept the same words is the law
+`described_automata_are_alike`. The law of `realize -f` has no automaton and no game: it needs what a formula means, and
+what strategies over its names are.
 
 **How to read one.** `checks/believing.py check --format pg` prints all definitions of that promise, in an order in
 which nothing is cited before it was read. `checks/believing.py --whole` lists for each promise the files of

@@ -3,6 +3,7 @@ pub mod Alike
 pub mod Described
 pub mod Inclusion
 pub mod Joined
+pub mod JudgedCircuits
 pub mod JudgedTexts
 pub mod Memberships
 pub mod Parted

@@ -5,7 +5,7 @@ use Rattle.omega_hoa_acceptance.specs.Meaning.{acc_meant}
 use Rattle.omega_hoa_syntax.specs.declared.raw_automaton.RawAutomaton.{RawAutomaton}
 use Rattle.omega_hoa_automaton.specs.Automaton.{Description}
 use Rattle.omega_hoa_automaton.specs.Faults.{definitions_of, names_of}
-use Rattle.omega_hoa_automaton.specs.Items.{acceptance_in, first_said, start_in}
+use Rattle.omega_hoa_automaton.specs.Items.{acceptance_in, first_said, start_in, unknown_in}
 use Rattle.omega_hoa_automaton.specs.Meaning.{IsStateOf}
 use Rattle.omega_hoa.specs.Alone.{IsAutomatonText}
 use Rattle.omega_hoa_round_trips.specs.Laws.{IsRawText}
@@ -13,7 +13,8 @@ use Rattle.omega_text.specs.NamedWords.{NamedWord}
 use Rattle.omega_lang_word_laws.specs.NamedWords.{AcceptsNamed}
 
 -- the text can be cut into tokens that spell an automaton as it is written, and this one has its starts, propositions,
--- acceptance formula and states with their edges, on which alone it depends which words it accepts
+-- acceptance formula and states with their edges, on which alone it depends which words it accepts, and the headers that
+-- the format leaves open
 pub record Describes (text : List ℕ) (automaton : Description) : Type 0 where
   pub raw : RawAutomaton
   pub written : IsRawText text raw
@@ -21,6 +22,7 @@ pub record Describes (text : List ℕ) (automaton : Description) : Type 0 where
   pub propositions : automaton.propositions ≡ names_of raw
   pub acceptance : option_and_then (λ accepted. acc_meant accepted.formula)
       (first_said acceptance_in raw.items) ≡ Some automaton.acceptance
+  pub unknown : automaton.unknown ≡ filter_map unknown_in raw.items
   pub defined : AllZip (IsStateOf (definitions_of raw)) raw.states automaton.defined
 
 -- the text describes an automaton

@@ -19,6 +19,7 @@ pub mod WrittenWords
 pub mod ControllerTexts
 pub mod FormulaStrategies
 pub mod FormulaTexts
+pub mod JudgedCircuits
 pub mod JudgedTexts
 pub mod LiftedAnswers
 pub mod RealizedFormulas

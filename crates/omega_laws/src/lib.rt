@@ -14,7 +14,7 @@
 //! that runs.
 //!
 //! Laws of `realize -f` and `verify -f`: what their answers say of the strategies of the system and of the environment,
-//! and of the automata that texts describe. No code that runs.
+//! and of the automata that texts describe; and of circuits, that are judged or written. No code that runs.
 //!
 //! Laws of `realize`: that the text of a controller is read back, that `verify --specification` judges it right, and
 //! that answers by lifting are given within the budget; and that no refusal of `verify --specification` is about a
@@ -27,6 +27,7 @@ mod controller_texts;
 mod describing;
 mod formula_texts;
 mod inclusion_texts;
+mod judged_circuits;
 mod judged_texts;
 mod lifted_answers;
 mod product_texts;
@@ -49,6 +50,9 @@ pub use formula_texts::{
 pub use inclusion_texts::{
     accepted_texts_are_accepted, contained_texts_are_contained, equal_texts_are_equal,
     some_texts_are_accepted,
+};
+pub use judged_circuits::{
+    circuits_are_judged, formula_circuits_are_exact, formula_circuits_are_judged,
 };
 pub use judged_texts::{formula_controllers_are_judged, formula_counter_strategies_are_judged};
 pub use lifted_answers::lifted_answers_end;

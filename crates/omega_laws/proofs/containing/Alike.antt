@@ -1,24 +1,37 @@
--- Automata with the same parts are the same controllers and counter-strategies for a formula.
-use Rattle.std.proofs.Common.{ℕ, Bool, List, [], ◌∷◌, Contains, sym, subst}
+-- Automata with the same parts are the same controllers and counter-strategies for a formula, and have the same sides.
+use Rattle.std.proofs.Common.{ℕ, ◌≤◌, Bool, true, if◌then◌else◌, List, [], ◌∷◌, length, filter, Contains, sym, subst}
+use Rattle.std.specs.List.{flat_map, list_any}
 use Rattle.std.specs.Prelude.{slice_index_or}
+use Rattle.omega_circuit.specs.Circuit.{CircuitValue}
+use Rattle.omega_circuit_encoder.specs.Names.{names_of}
 use Rattle.omega_hoa_automaton.specs.Automaton.{Description}
+use Rattle.omega_hoa_automaton.specs.declared.header.Header.{Header}
 use Rattle.omega_lang_runs.specs.Lasso.{IsStart, Leads}
 use Rattle.omega_lang_runs.specs.Words.{CanBeTaken}
 use Rattle.omega_ltl_formula.specs.Formula.{FormulaTree}
 use Rattle.omega_synth_check.specs.CounterJudging.{GoesOn, NamedLetter}
 use Rattle.omega_synth_check.specs.CounterRefusing.{system_numbers}
 use Rattle.omega_synth_check.specs.Judging.{AnswersAll, IsAnswered, IsReached}
+use Rattle.omega_synth_controllers.specs.Controllable.{AreNumbersOf, IsControlled, is_controllable_item}
 use Rattle.omega_synth_controllers.specs.Controllers.{Answers}
 use Rattle.omega_synth_formula.specs.CounterJudging.{IsCounterStrategyForFormula}
 use Rattle.omega_synth_formula.specs.Following.{HasFollowedLetter}
 use Rattle.omega_synth_formula.specs.Judging.{IsControllerForFormula}
+use Rattle.omega_answers_circuit.specs.Sides.{IsSided}
+use Rattle.omega_answers_circuit.specs.Verify.{IsSidedBy}
+use Rattle.omega_laws.specs.Describes.{Describes}
 use Rattle.omega_laws.proofs.containing.Described.{HaveSameParts, named_alike, same_step, same_taken}
+
+-- automata that one text describes have the same parts
+abbrev pub PartsAreOne : Type 0
+PartsAreOne = (text : List ℕ) (one other : Description) → Describes text one → Describes text other → HaveSameParts one other
 
 pub turned : (a b : Description) → HaveSameParts a b → HaveSameParts b a
 turned a b same = record {
   starts = sym same.starts;
   propositions = sym same.propositions;
   acceptance = sym same.acceptance;
+  unknown = sym same.unknown;
   defined = sym same.defined;
 }
 
@@ -88,3 +101,25 @@ same_counter_strategy a b same formula outs is = record {
       record { given = letter.given; follows = λ other given. same_goes a b same other state (letter.follows other given) });
   refused = λ word accepts. is.refused word (named_alike b a (turned a b same) word accepts);
 }
+
+-- the propositions that the system controls
+pub same_controlled : (a b : Description) → HaveSameParts a b → (numbers : List ℕ) → IsControlled a numbers → IsControlled b numbers
+same_controlled a b same numbers is =
+    let items : List Header → List Header = filter is_controllable_item in
+    record {
+      once = subst (λ (unknown : List Header). length (items unknown) ≤ 1) same.unknown is.once;
+      stated = subst (λ (names : List (List ℕ)). AreNumbersOf (length names) (flat_map (λ item. item.values) (items b.unknown)) numbers) same.propositions
+          (subst (λ (unknown : List Header). AreNumbersOf (length a.propositions) (flat_map (λ item. item.values) (items unknown)) numbers) same.unknown is.stated);
+    }
+
+-- the sides of a circuit
+pub same_sides : (a b : Description) → HaveSameParts a b → (c : CircuitValue) → IsSidedBy a c → IsSidedBy b c
+same_sides a b same c is =
+    let Sided : List Header → List (List ℕ) → Type 0 =
+    λ unknown names. IsSided (if list_any is_controllable_item unknown then names else []) (names_of true names is.stated) c in
+    record {
+      stated = is.stated;
+      specified = same_controlled a b same is.stated is.specified;
+      sided = subst (λ (unknown : List Header). Sided unknown b.propositions) same.unknown
+          (subst (λ (names : List (List ℕ)). Sided a.unknown names) same.propositions is.sided);
+    }

@@ -15,7 +15,7 @@ use Rattle.omega_hoa_syntax.specs.declared.raw_edge.RawEdge.{RawEdge}
 use Rattle.omega_hoa_syntax.specs.declared.raw_state.RawState.{RawState}
 use Rattle.omega_hoa_automaton.specs.Automaton.{BodyEdge, Description, edge_at, edges_from}
 use Rattle.omega_hoa_automaton.specs.Faults.{definitions_of, names_of}
-use Rattle.omega_hoa_automaton.specs.Items.{acceptance_in, first_said, start_in}
+use Rattle.omega_hoa_automaton.specs.Items.{acceptance_in, first_said, start_in, unknown_in}
 use Rattle.omega_hoa_automaton.specs.Meaning.{AreMarksOf, IsEdgeOf, IsLabelOf, IsStateOf, written_marks}
 use Rattle.omega_hoa_automaton.specs.declared.edge.Edge.{Edge}
 use Rattle.omega_hoa_automaton.specs.declared.state.State.{State}
@@ -35,6 +35,7 @@ described text a read = record {
   starts = read.value.means.starts;
   propositions = read.value.means.propositions;
   acceptance = read.value.means.acceptance;
+  unknown = read.value.means.unknown;
   defined = read.value.means.defined;
 }
 
@@ -100,6 +101,7 @@ pub record HaveSameParts (a b : Description) : Type 0 where
   pub starts : a.starts ≡ b.starts
   pub propositions : a.propositions ≡ b.propositions
   pub acceptance : a.acceptance ≡ b.acceptance
+  pub unknown : a.unknown ≡ b.unknown
   pub defined : a.defined ≡ b.defined
 
 -- equal values that are there
@@ -121,6 +123,7 @@ module _ (cuts_one : CutsAreOne hoa_format) (raws_one : RawsAreOne) (text : List
         starts = one.starts ∙ ap (λ (r : RawAutomaton). filter_map start_in r.items) raw ∙ sym other.starts;
         propositions = one.propositions ∙ ap names_of raw ∙ sym other.propositions;
         acceptance = inside a.acceptance b.acceptance (sym one.acceptance ∙ ap of raw ∙ other.acceptance);
+        unknown = one.unknown ∙ ap (λ (r : RawAutomaton). filter_map unknown_in r.items) raw ∙ sym other.unknown;
         defined = zip_one (IsStateOf (definitions_of other.raw)) (states_one (definitions_of other.raw)) other.raw.states a.defined b.defined
             (subst P raw one.defined) other.defined;
       }

@@ -61,7 +61,7 @@ module _ (known : Known) (decided : LimitedPrincipleOfOmniscience) where
         beaten = (λ no. found, λ some. refl);
       }
 
-  says : (text winner : List ℕ) (lists : NameLists) (exit : Exit) → IsFormulaWinnerAnswer text lists exit winner → SaysWhoWins text lists exit
+  pub says : (text winner : List ℕ) (lists : NameLists) (exit : Exit) → IsFormulaWinnerAnswer text lists exit winner → SaysWhoWins text lists exit
   says text winner lists exit won =
       let asked : NumberedFormula = won.formula in
       let here : TellsWhoWinsFormula (tree_of asked) (outputs_of lists (tree_of asked)) exit =

@@ -1,0 +1,16 @@
+use Rattle.omega_laws.proofs.containing.JudgedCircuits.{circuits_exact}
+use Rattle.omega_laws.proofs.containing.Realizing.{Known}
+use Rattle.omega_laws.proofs.judged_circuits.formula_circuits_are_exact.Goals as goal
+
+pub returns : goal.returns
+returns c =
+    let known : Known = record {
+      formulas = c.formulas_of_texts_are_one.ensures;
+      automata = c.meanings_are_automata.ensures;
+      named = c.words_are_named.ensures;
+      exact = c.formula_judgements_are_exact.ensures;
+      counter_exact = c.formula_counter_judgements_are_exact.ensures;
+      realize = c.controllers_realize_formulas.ensures;
+      beat = c.counter_strategies_beat_formulas.ensures;
+    } in
+    circuits_exact known c.written_formula_circuits_satisfy.ensures
