@@ -49,8 +49,8 @@ WRITTEN_CONTROLLER_LAWS = ("WrittenControllersAreJudgedRight", "WrittenControlle
 WRITTEN_CONTROLLER_ANSWERS = frozenset({"IsWinnerAnswer", "IsControllerAnswer", "IsControllerRefused"})
 # What `yes`, `no`, `realizable` and `unrealizable` mean, by laws: each with the answers from which it concludes.
 EXACT = {
-    "`omega realize`, the law `realize_answers_are_exact`":
-        ("omega_answers_synth.specs.Laws", "RealizeAnswersAreExact", frozenset({"IsDecisionAnswer"})),
+    "`omega realize`, the law `realized_texts_are_exact`":
+        ("omega_laws.specs.SpecificationTexts", "RealizedTextsAreExact", frozenset({"IsDecisionAnswer"})),
     "`omega realize -f`, the law `realize_formula_answers_are_exact`":
         ("omega_laws.specs.RealizedFormulas", "RealizeFormulaAnswersAreExact", frozenset({"IsFormulaRealizeAnswer"})),
     "`omega verify -f`, the law `formula_controllers_are_judged`":
@@ -63,10 +63,10 @@ EXACT = {
         ("omega_laws.specs.JudgedCircuits", "FormulaCircuitsAreExact", frozenset({"IsFormulaCircuitWritten"})),
     "`omega verify --specification` of a circuit, the law `circuits_are_judged`":
         ("omega_laws.specs.JudgedCircuits", "CircuitsAreJudged", frozenset({"IsCircuitAnswer"})),
-    "`omega verify --specification`, the law `controller_answers_are_exact`":
-        ("omega_answers_synth.specs.Laws", "ControllerAnswersAreExact", frozenset({"IsControllerAnswer"})),
-    "`omega verify --specification --counter-strategy`, the law `counter_answers_are_exact`":
-        ("omega_answers_synth.specs.Laws", "CounterAnswersAreExact", frozenset({"IsCounterAnswer"})),
+    "`omega verify --specification`, the law `controller_texts_are_judged`":
+        ("omega_laws.specs.SpecificationTexts", "ControllerTextsAreJudged", frozenset({"IsControllerAnswer"})),
+    "`omega verify --specification --counter-strategy`, the law `counter_texts_are_judged`":
+        ("omega_laws.specs.SpecificationTexts", "CounterTextsAreJudged", frozenset({"IsCounterAnswer"})),
     "`omega accepts`, the law `accepted_texts_are_accepted`":
         ("omega_laws.specs.InclusionTexts", "AcceptedTextsAreAccepted", frozenset({"IsAcceptsAnswer"})),
     "`omega accepts --some`, the law `some_texts_are_accepted`":

@@ -11,5 +11,6 @@ pub mod Plays
 pub mod Realizing
 pub mod Said
 pub mod Satisfying
+pub mod SpecificationTexts
 pub mod Texts
 pub mod Trimmed

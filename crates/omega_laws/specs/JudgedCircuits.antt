@@ -1,5 +1,5 @@
--- Laws of what `verify` answers of circuits, and of the circuits that `realize -f --aiger` writes, in words of what texts
--- describe.
+-- Laws of what `verify` answers of circuits, and of the circuits that `realize -f --aiger` writes, in words of what
+-- texts describe.
 use Rattle.std.specs.Prelude.{◌≡◌, ◌↔◌, Bool, List, ℕ, codes}
 use Rattle.omega_text.specs.Omniscience.{LimitedPrincipleOfOmniscience}
 use Rattle.omega_aiger.specs.Text.{IsCircuitText}

@@ -23,5 +23,6 @@ pub mod JudgedCircuits
 pub mod JudgedTexts
 pub mod LiftedAnswers
 pub mod RealizedFormulas
+pub mod SpecificationTexts
 pub mod WrittenControllers
 pub mod WrittenCircuits

@@ -1,5 +1,5 @@
-//! Laws of what `verify` answers of circuits, and of the circuits that `realize -f --aiger` writes, in words of what texts
-//! describe: each call does nothing and states one law.
+//! Laws of what `verify` answers of circuits, and of the circuits that `realize -f --aiger` writes, in words of what
+//! texts describe: each call does nothing and states one law.
 
 ghost use Rattle.omega_laws.specs.JudgedCircuits.{CircuitsAreJudged, FormulaCircuitsAreExact};
 ghost use Rattle.omega_laws.specs.JudgedCircuits.{FormulaCircuitsAreJudged};
@@ -33,8 +33,8 @@ pub fn circuits_are_judged()
 }
 
 /// Shows that `verify -f` answers `yes` to the text of a circuit exactly if each word of the circuit satisfies the
-/// formula, by the same principle. Where it answers, no input is named like an output of the formula, and no output like
-/// another of its names.
+/// formula, by the same principle. Where it answers, no input is named like an output of the formula, and no output
+/// like another of its names.
 pub fn formula_circuits_are_judged()
     ensures { FormulaCircuitsAreJudged }
 {

@@ -1,7 +1,8 @@
-//! Laws of what `verify -f` answers, in words of the automata that texts describe: each call does nothing and states one
-//! law.
+//! Laws of what `verify -f` answers, in words of the automata that texts describe: each call does nothing and states
+//! one law.
 
-ghost use Rattle.omega_laws.specs.JudgedTexts.{FormulaControllersAreJudged, FormulaCounterStrategiesAreJudged};
+ghost use Rattle.omega_laws.specs.JudgedTexts.{FormulaControllersAreJudged};
+ghost use Rattle.omega_laws.specs.JudgedTexts.{FormulaCounterStrategiesAreJudged};
 
 use omega_hoa_syntax::raws_are_one;
 use omega_ltl_text::laws::formulas_of_texts_are_one;

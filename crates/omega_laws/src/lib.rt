@@ -13,8 +13,8 @@
 //! Laws of `satisfies` and of `equal -f`: what their answers say of the words that a text accepts or admits. No code
 //! that runs.
 //!
-//! Laws of `realize -f` and `verify -f`: what their answers say of the strategies of the system and of the environment,
-//! and of the automata that texts describe; and of circuits, that are judged or written. No code that runs.
+//! Laws of `realize` and `verify`: what their answers say of the strategies of the system and of the environment, and
+//! of the automata that texts describe; and of circuits, that are judged or written. No code that runs.
 //!
 //! Laws of `realize`: that the text of a controller is read back, that `verify --specification` judges it right, and
 //! that answers by lifting are given within the budget; and that no refusal of `verify --specification` is about a
@@ -32,6 +32,7 @@ mod judged_texts;
 mod lifted_answers;
 mod product_texts;
 mod realized_formulas;
+mod specification_texts;
 mod trimming;
 mod trims;
 mod unions;
@@ -63,6 +64,9 @@ pub use omega_lang_word_laws::{
 };
 pub use product_texts::products_are_read_back;
 pub use realized_formulas::{formula_winners_are_exact, realize_formula_answers_are_exact};
+pub use specification_texts::{
+    controller_texts_are_judged, counter_texts_are_judged, realized_texts_are_exact,
+};
 pub use trimming::trimmed_meetings_accept_both;
 pub use trims::{trimmed_texts_accept_the_same, trims_accept_the_same, trims_are_one};
 pub use unions::{

@@ -1,5 +1,5 @@
 -- Automata with the same parts are the same controllers and counter-strategies for a formula, and have the same sides.
-use Rattle.std.proofs.Common.{ℕ, ◌≤◌, Bool, true, if◌then◌else◌, List, [], ◌∷◌, length, filter, Contains, sym, subst}
+use Rattle.std.proofs.Common.{◌≡◌, ℕ, ◌≤◌, Bool, true, if◌then◌else◌, List, [], ◌∷◌, ◌++◌, length, filter, Contains, sym, ap, ap₂, subst, ◌∙◌}
 use Rattle.std.specs.List.{flat_map, list_any}
 use Rattle.std.specs.Prelude.{slice_index_or}
 use Rattle.omega_circuit.specs.Circuit.{CircuitValue}
@@ -9,18 +9,23 @@ use Rattle.omega_hoa_automaton.specs.declared.header.Header.{Header}
 use Rattle.omega_lang_runs.specs.Lasso.{IsStart, Leads}
 use Rattle.omega_lang_runs.specs.Words.{CanBeTaken}
 use Rattle.omega_ltl_formula.specs.Formula.{FormulaTree}
-use Rattle.omega_synth_check.specs.CounterJudging.{GoesOn, NamedLetter}
+use Rattle.omega_synth_check.specs.CounterJudging.{ComeTo, GoesAt, GoesOn, HasLetter, IsCounterStrategyFor, NamedLetter}
+use Rattle.omega_synth_check.specs.CounterJudging.ComeTo.{begin, go_on}
 use Rattle.omega_synth_check.specs.CounterRefusing.{system_numbers}
-use Rattle.omega_synth_check.specs.Judging.{AnswersAll, IsAnswered, IsReached}
-use Rattle.omega_synth_controllers.specs.Controllable.{AreNumbersOf, IsControlled, is_controllable_item}
+use Rattle.omega_synth_check.specs.Judging.{AnswersAll, IsAnswered, IsControllerFor, IsReached}
+use Rattle.omega_synth_controllers.specs.Controllable.{AreNumbersOf, IsControlled, has_item, is_controllable_item}
 use Rattle.omega_synth_controllers.specs.Controllers.{Answers}
+use Rattle.omega_synth_controllers.specs.Strategies.{word_against, word_of}
 use Rattle.omega_synth_formula.specs.CounterJudging.{IsCounterStrategyForFormula}
 use Rattle.omega_synth_formula.specs.Following.{HasFollowedLetter}
 use Rattle.omega_synth_formula.specs.Judging.{IsControllerForFormula}
+use Rattle.omega_io.specs.declared.exit.Exit.{Exit}
+use Rattle.omega_answers_synth.specs.Laws.{TellsWhoWins}
+use Rattle.omega_answers_synth.specs.Parting.{AreAlike, AreControlledAlike, AreSystemNames, names_at}
 use Rattle.omega_answers_circuit.specs.Sides.{IsSided}
 use Rattle.omega_answers_circuit.specs.Verify.{IsSidedBy}
 use Rattle.omega_laws.specs.Describes.{Describes}
-use Rattle.omega_laws.proofs.containing.Described.{HaveSameParts, named_alike, same_step, same_taken}
+use Rattle.omega_laws.proofs.containing.Described.{HaveSameParts, accepted_alike, named_alike, same_step, same_taken}
 
 -- automata that one text describes have the same parts
 abbrev pub PartsAreOne : Type 0
@@ -63,16 +68,16 @@ module _ (a b : Description) (same : HaveSameParts a b) where
     answers = same_answers controlled is.number given is.answers;
   }
 
+  same_goes_at : (letter : NamedLetter) (from to : ℕ) → GoesAt a letter from to → GoesAt b letter from to
+  same_goes_at letter from to goes = record {
+    number = goes.number;
+    step = same_step a b same from goes.number to goes.step;
+    taken = same_taken a b same goes.number (λ p. letter (slice_index_or b.propositions p []))
+        (subst (λ (names : List (List ℕ)). CanBeTaken a goes.number (λ p. letter (slice_index_or names p []))) same.propositions goes.taken);
+  }
+
   same_goes : (letter : NamedLetter) (from : ℕ) → GoesOn a letter from → GoesOn b letter from
-  same_goes letter from goes = (
-    goes.0,
-    record {
-      number = goes.1.number;
-      step = same_step a b same from goes.1.number goes.0 goes.1.step;
-      taken = same_taken a b same goes.1.number (λ p. letter (slice_index_or b.propositions p []))
-          (subst (λ (names : List (List ℕ)). CanBeTaken a goes.1.number (λ p. letter (slice_index_or names p []))) same.propositions goes.1.taken);
-    },
-  )
+  same_goes letter from goes = (goes.0, same_goes_at letter from goes.0 goes.1)
 
 pub same_all : (a b : Description) → HaveSameParts a b → (controlled : List ℕ) → AnswersAll a controlled → AnswersAll b controlled
 same_all a b same controlled all = record {
@@ -111,6 +116,73 @@ same_controlled a b same numbers is =
       stated = subst (λ (names : List (List ℕ)). AreNumbersOf (length names) (flat_map (λ item. item.values) (items b.unknown)) numbers) same.propositions
           (subst (λ (unknown : List Header). AreNumbersOf (length a.propositions) (flat_map (λ item. item.values) (items unknown)) numbers) same.unknown is.stated);
     }
+
+-- what the items of two say
+module _ (a b c d : Description) (same : HaveSameParts a b) (also : HaveSameParts c d) where
+  same_alike : (ones others : List ℕ) → (has_item a ≡ true → AreAlike a.propositions c.propositions ones others)
+      → has_item b ≡ true → AreAlike b.propositions d.propositions ones others
+  same_alike ones others alike item =
+      let here : has_item a ≡ true = ap (list_any is_controllable_item) same.unknown ∙ item in
+      subst (λ (names : List (List ℕ)). AreAlike names d.propositions ones others) same.propositions
+      (subst (λ (names : List (List ℕ)). AreAlike a.propositions names ones others) also.propositions (alike here))
+
+  pub same_parted : (controlled : List ℕ) → AreControlledAlike a c controlled → AreControlledAlike b d controlled
+  same_parted controlled is = record {
+    own = same_controlled c d also controlled is.own;
+    stated = is.stated;
+    other = same_controlled a b same is.stated is.other;
+    alike = same_alike is.stated controlled is.alike;
+  }
+
+  pub same_system : (names : List (List ℕ)) → AreSystemNames a c names → AreSystemNames b d names
+  same_system names is = record {
+    stated = is.stated;
+    specified = same_controlled a b same is.stated is.specified;
+    controlled = is.controlled;
+    own = same_controlled c d also is.controlled is.own;
+    alike = same_alike is.stated is.controlled is.alike;
+    are = is.are ∙ ap₂ (λ ones others. names_at ones is.stated ++ names_at others is.controlled) same.propositions also.propositions;
+  }
+
+  -- a controller for a specification
+  pub same_specified : (controlled : List ℕ) → IsControllerFor a c controlled → IsControllerFor b d controlled
+  same_specified controlled is = record {
+    answers = same_all c d also controlled is.answers;
+    accepted = λ word accepts. named_alike a b same word (is.accepted word (named_alike d c (turned c d also) word accepts));
+  }
+
+  -- and a counter-strategy
+  came : (s t : ℕ) → ComeTo b d s t → ComeTo a c s t
+  came _ _ (begin s t one other) = begin s t (same_start b a (turned a b same) s one) (same_start d c (turned c d also) t other)
+  came _ _ (go_on letter s t to on before one other) =
+      go_on letter s t to on (came s t before) (same_goes_at b a (turned a b same) letter s to one) (same_goes_at d c (turned c d also) letter t on other)
+
+  pub same_countered : (names : List (List ℕ)) → IsCounterStrategyFor a c names → IsCounterStrategyFor b d names
+  same_countered names is = record {
+    begins = λ start starts.
+        (let own = is.begins start (same_start b a (turned a b same) start starts) in (own.0, same_start c d also own.0 own.1));
+    follows = λ s t come.
+        (let letter : HasLetter a c names s t = is.follows s t (came s t come) in
+        record {
+          given = letter.given;
+          follows = λ other given goes. same_goes c d also other t (letter.follows other given (same_goes b a (turned a b same) other s goes));
+        });
+    refused = λ word accepts also_accepts.
+        is.refused word (named_alike d c (turned c d also) word accepts) (named_alike b a (turned a b same) word also_accepts);
+  }
+
+-- who wins
+pub same_winner : (a b : Description) → HaveSameParts a b → (controlled : List ℕ) (exit : Exit) → TellsWhoWins a controlled exit → TellsWhoWins b controlled exit
+same_winner a b same controlled exit is = record {
+  realized = (
+    λ done. (let some = is.realized.0 done in (some.0, λ given. accepted_alike a b same (word_of controlled some.0 given) (some.1 given))),
+    λ some. is.realized.1 (some.0, λ given. accepted_alike b a (turned a b same) (word_of controlled some.0 given) (some.1 given)),
+  );
+  beaten = (
+    λ no. (let some = is.beaten.0 no in (some.0, λ own accepted. some.1 own (accepted_alike b a (turned a b same) (word_against controlled some.0 own) accepted))),
+    λ some. is.beaten.1 (some.0, λ own accepted. some.1 own (accepted_alike a b same (word_against controlled some.0 own) accepted)),
+  );
+}
 
 -- the sides of a circuit
 pub same_sides : (a b : Description) → HaveSameParts a b → (c : CircuitValue) → IsSidedBy a c → IsSidedBy b c
