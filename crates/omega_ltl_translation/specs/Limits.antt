@@ -9,10 +9,10 @@ most_states = 1048576
 abbrev pub most_edges : ℕ
 most_edges = 8388608
 
--- the most nodes of a label for each edge that is joined in it
+-- the most nodes of a label for each edge that is joined in it: for each of 64 names a literal of two and `&`, and `|`
 abbrev pub most_edge_label : ℕ
 most_edge_label = 193
 
--- so many edges have labels within the limits of automata, whatever their labels are
+-- the most edges whose labels are within the limit of automata in any case: 16,777,216 nodes in all
 abbrev pub most_labelled_edges : ℕ
 most_labelled_edges = 86928

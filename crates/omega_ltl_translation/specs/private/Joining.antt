@@ -4,7 +4,7 @@ use Rattle.std.specs.Prelude.{Contains}
 use Rattle.omega_ltl_shapes.specs.declared.cube.Cube.{Cube}
 use Rattle.omega_ltl_translation.specs.declared.graph.GraphEdge.{GraphEdge}
 use Rattle.omega_ltl_translation.specs.declared.joining.JoinedEdge.{JoinedEdge}
-use Rattle.omega_ltl_translation.specs.private.Labels.{AreFew}
+use Rattle.omega_ltl_translation.specs.private.Labels.{AreFew, most_cubes}
 
 -- an edge leads where joined ones lead, and is late in the same sets
 pub record IsLike (edge : GraphEdge) (joined : JoinedEdge) : Type 0 where
@@ -54,7 +54,7 @@ pub record AddsJoined (edge : GraphEdge) (old new : List JoinedEdge) : Type 0 wh
 -- an edge may be joined to another: they are alike, and there is room
 pub record IsJoinable (edge : GraphEdge) (joined : JoinedEdge) : Type 0 where
   pub like : IsLike edge joined
-  pub room : length joined.cubes.items < 128
+  pub room : length joined.cubes.items < most_cubes
 
 -- at a place of a list, if it is not its end, an edge may be joined
 abbrev pub IsPlaceToJoin : GraphEdge → List JoinedEdge → ℕ → Type 0

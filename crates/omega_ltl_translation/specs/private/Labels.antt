@@ -61,15 +61,19 @@ disjunction_of (Some label) more = disjunction label more
 abbrev pub IsOperand : RawLabelTree → Type 0
 IsOperand label = raw_depth label < most_depth
 
--- so many cubes are joined to one label, which is not too deep
-abbrev pub AreFew : List Cube → Type 0
-AreFew cubes = (0 < length cubes) × (length cubes ≤ 128)
+-- the most cubes that are joined to one label, so that it is not too deep
+abbrev pub most_cubes : ℕ
+most_cubes = 128
 
--- the label of a cube with the literals on the first names
+-- cubes can be joined to one label
+abbrev pub AreFew : List Cube → Type 0
+AreFew cubes = (0 < length cubes) × (length cubes ≤ most_cubes)
+
+-- the label of a cube with the literals on the first names: for each a literal of at most two nodes, and `&`
 abbrev pub IsLabelBelow : Cube → ℕ → Option RawLabelTree → Type 0
 IsLabelBelow cube count = IsLabelOrNone 2 (count * 3) (count + 2) (AreTrueBelow cube count)
 
--- the label that is true where some cube of a list is
+-- the label that is true where some cube of a list is. That of a cube has at most 64 names, so it is at most 66 deep
 abbrev pub IsLabelOf : List Cube → RawLabelTree → Type 0
 IsLabelOf cubes = IsLabelAt 1 (length cubes * most_edge_label) (length cubes + 66) (SomeIsTrue cubes)
 
