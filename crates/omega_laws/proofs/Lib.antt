@@ -5,6 +5,7 @@
 -- what is answered to it, what does not branch, what is refused, and runs that have ended.
 pub mod containing
 pub mod reading_back
+pub mod saying
 pub mod Members
 pub mod Moved
 pub mod Runs

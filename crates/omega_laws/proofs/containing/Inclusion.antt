@@ -21,7 +21,7 @@ use Rattle.omega_answers_inclusion.specs.Example.{example_lines}
 use Rattle.omega_laws.specs.Describes.{DescribedAreAlike}
 use Rattle.omega_laws.specs.InclusionTexts.{ContainedTextsAreContained, EqualTextsAreEqual, SaysContained, SaysEqual, TellsOutside}
 use Rattle.omega_laws.specs.TextWords.{AcceptsWordsOf}
-use Rattle.omega_laws.proofs.containing.Described.{described}
+use Rattle.omega_laws.proofs.saying.Described.{described}
 use Rattle.omega_laws.proofs.containing.Parted.{seen_periodic}
 use Rattle.omega_laws.proofs.containing.Texts.{of_automaton, of_text}
 

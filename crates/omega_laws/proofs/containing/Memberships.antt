@@ -24,7 +24,7 @@ use Rattle.omega_answers_inclusion.specs.Accepts.{membership_answer}
 use Rattle.omega_answers_inclusion.specs.AcceptsSome.{some_exit, some_text}
 use Rattle.omega_laws.specs.Describes.{DescribedAreAlike}
 use Rattle.omega_laws.specs.InclusionTexts.{AcceptedTextsAreAccepted, SaysAccepted, SaysSomeAccepted, SomeTextsAreAccepted}
-use Rattle.omega_laws.proofs.containing.Described.{described}
+use Rattle.omega_laws.proofs.saying.Described.{described}
 use Rattle.omega_laws.proofs.containing.Parted.{seen_periodic}
 use Rattle.omega_laws.proofs.containing.Texts.{of_automaton, of_text}
 

@@ -22,7 +22,7 @@ use Rattle.omega_text.specs.NamedWords.{NamedWord}
 use Rattle.omega_lang_word_laws.specs.NamedWords.{AcceptsNamed, part_of}
 use Rattle.omega_laws.specs.ProductTexts.{ProductsAreReadBack}
 use Rattle.omega_laws.specs.TextWords.{TextAccepts}
-use Rattle.omega_laws.proofs.containing.Described.{described}
+use Rattle.omega_laws.proofs.saying.Described.{described}
 use Rattle.omega_lang_word_laws.specs.Products.{ProductsMeet}
 use Rattle.omega_lang_word_laws.proofs.naming.Named.{accepted_named}
 use Rattle.omega_lang_word_laws.proofs.naming.Parted.{products_meet_named}

@@ -1,4 +1,4 @@
-use Rattle.omega_laws.proofs.containing.Described.{described}
+use Rattle.omega_laws.proofs.saying.Described.{described}
 use Rattle.omega_laws.proofs.describing.automata_are_described.Goals as goal
 
 pub returns : goal.returns

@@ -1,4 +1,4 @@
-use Rattle.omega_laws.proofs.containing.Described.{described_alike}
+use Rattle.omega_laws.proofs.saying.Described.{described_alike}
 use Rattle.omega_laws.proofs.describing.described_automata_are_alike.Goals as goal
 
 pub returns : goal.returns

@@ -1,4 +1,4 @@
-use Rattle.omega_laws.proofs.containing.Satisfying.{admitted_said}
+use Rattle.omega_laws.proofs.saying.Satisfying.{admitted_said}
 use Rattle.omega_laws.proofs.formula_texts.admitted_words_satisfy.Goals as goal
 
 pub returns : goal.returns

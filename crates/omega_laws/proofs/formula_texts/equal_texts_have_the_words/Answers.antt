@@ -1,4 +1,4 @@
-use Rattle.omega_laws.proofs.containing.Satisfying.{equal_said}
+use Rattle.omega_laws.proofs.saying.Satisfying.{equal_said}
 use Rattle.omega_laws.proofs.formula_texts.equal_texts_have_the_words.Goals as goal
 
 pub returns : goal.returns

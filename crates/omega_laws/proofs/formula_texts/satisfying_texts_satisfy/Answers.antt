@@ -1,4 +1,4 @@
-use Rattle.omega_laws.proofs.containing.Satisfying.{satisfying_said}
+use Rattle.omega_laws.proofs.saying.Satisfying.{satisfying_said}
 use Rattle.omega_laws.proofs.formula_texts.satisfying_texts_satisfy.Goals as goal
 
 pub returns : goal.returns

@@ -1,5 +1,5 @@
-use Rattle.omega_laws.proofs.containing.Described.{same_parts}
-use Rattle.omega_laws.proofs.containing.JudgedCircuits.{circuits_judged}
+use Rattle.omega_laws.proofs.saying.Described.{same_parts}
+use Rattle.omega_laws.proofs.saying.JudgedCircuits.{circuits_judged}
 use Rattle.omega_laws.proofs.judged_circuits.circuits_are_judged.Goals as goal
 
 pub returns : goal.returns

@@ -1,5 +1,5 @@
-use Rattle.omega_laws.proofs.containing.JudgedCircuits.{circuits_exact}
-use Rattle.omega_laws.proofs.containing.Realizing.{Known}
+use Rattle.omega_laws.proofs.saying.JudgedCircuits.{circuits_exact}
+use Rattle.omega_laws.proofs.saying.Realizing.{Known}
 use Rattle.omega_laws.proofs.judged_circuits.formula_circuits_are_exact.Goals as goal
 
 pub returns : goal.returns

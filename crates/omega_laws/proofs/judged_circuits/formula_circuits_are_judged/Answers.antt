@@ -1,4 +1,4 @@
-use Rattle.omega_laws.proofs.containing.JudgedCircuits.{formula_circuits_judged}
+use Rattle.omega_laws.proofs.saying.JudgedCircuits.{formula_circuits_judged}
 use Rattle.omega_laws.proofs.judged_circuits.formula_circuits_are_judged.Goals as goal
 
 pub returns : goal.returns

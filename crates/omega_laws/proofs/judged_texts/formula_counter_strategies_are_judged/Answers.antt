@@ -1,5 +1,5 @@
-use Rattle.omega_laws.proofs.containing.Described.{same_parts}
-use Rattle.omega_laws.proofs.containing.JudgedTexts.{counter_strategies_judged}
+use Rattle.omega_laws.proofs.saying.Described.{same_parts}
+use Rattle.omega_laws.proofs.saying.JudgedTexts.{counter_strategies_judged}
 use Rattle.omega_laws.proofs.judged_texts.formula_counter_strategies_are_judged.Goals as goal
 
 pub returns : goal.returns

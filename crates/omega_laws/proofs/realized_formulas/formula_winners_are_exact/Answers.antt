@@ -1,4 +1,4 @@
-use Rattle.omega_laws.proofs.containing.Realizing.{Known, winners_said}
+use Rattle.omega_laws.proofs.saying.Realizing.{Known, winners_said}
 use Rattle.omega_laws.proofs.realized_formulas.formula_winners_are_exact.Goals as goal
 
 pub returns : goal.returns

@@ -1,4 +1,4 @@
-use Rattle.omega_laws.proofs.containing.Realizing.{Known, realizing_said}
+use Rattle.omega_laws.proofs.saying.Realizing.{Known, realizing_said}
 use Rattle.omega_laws.proofs.realized_formulas.realize_formula_answers_are_exact.Goals as goal
 
 pub returns : goal.returns

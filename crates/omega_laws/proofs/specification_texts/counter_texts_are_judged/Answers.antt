@@ -1,5 +1,5 @@
-use Rattle.omega_laws.proofs.containing.Described.{same_parts}
-use Rattle.omega_laws.proofs.containing.SpecificationTexts.{counter_strategies_exact}
+use Rattle.omega_laws.proofs.saying.Described.{same_parts}
+use Rattle.omega_laws.proofs.saying.SpecificationTexts.{counter_strategies_exact}
 use Rattle.omega_laws.proofs.specification_texts.counter_texts_are_judged.Goals as goal
 
 pub returns : goal.returns

@@ -1,5 +1,5 @@
-use Rattle.omega_laws.proofs.containing.Described.{same_parts}
-use Rattle.omega_laws.proofs.containing.SpecificationTexts.{realized_exact}
+use Rattle.omega_laws.proofs.saying.Described.{same_parts}
+use Rattle.omega_laws.proofs.saying.SpecificationTexts.{realized_exact}
 use Rattle.omega_laws.proofs.specification_texts.realized_texts_are_exact.Goals as goal
 
 pub returns : goal.returns

@@ -12,8 +12,8 @@ use Rattle.omega_answers_synth.specs.FormulaWinner.{verdict_line}
 use Rattle.omega_answers_synth.specs.Laws.{ControllerAnswersAreExact, CounterAnswersAreExact, RealizeAnswersAreExact}
 use Rattle.omega_laws.specs.Describes.{Describes}
 use Rattle.omega_laws.specs.SpecificationTexts.{ControllerTextsAreJudged, CounterTextsAreJudged, RealizedTextsAreExact}
-use Rattle.omega_laws.proofs.containing.Alike.{PartsAreOne, same_controlled, same_countered, same_parted, same_specified, same_system, same_winner, turned}
-use Rattle.omega_laws.proofs.containing.Described.{HaveSameParts, described}
+use Rattle.omega_laws.proofs.saying.Alike.{PartsAreOne, same_controlled, same_countered, same_parted, same_specified, same_system, same_winner, turned}
+use Rattle.omega_laws.proofs.saying.Described.{HaveSameParts, described}
 
 pub realized_exact : PartsAreOne → RealizeAnswersAreExact → RealizedTextsAreExact
 realized_exact parts exact decided text output exit answer =

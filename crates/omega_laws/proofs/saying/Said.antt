@@ -13,7 +13,7 @@ use Rattle.omega_answers_formula.specs.Formula.{IsFormulaOfText}
 use Rattle.omega_answers_formula.specs.InTurn.{AreAnswered}
 use Rattle.omega_laws.specs.Describes.{DescribedAreAlike, Describes}
 use Rattle.omega_laws.specs.FormulaTexts.{SaysOfTexts}
-use Rattle.omega_laws.proofs.containing.Described.{described}
+use Rattle.omega_laws.proofs.saying.Described.{described}
 
 -- what holds of the elements of two lists, place by place, gives another
 zipped : {A B : Type 0} (P Q : A → B → Type 0) → ((one : A) (other : B) → P one other → Q one other)

@@ -24,9 +24,9 @@ use Rattle.omega_answers_synth.specs.Outputs.{outputs_in}
 use Rattle.omega_laws.specs.Describes.{Describes}
 use Rattle.omega_laws.specs.JudgedCircuits.{CircuitsAreJudged, FormulaCircuitsAreExact, FormulaCircuitsAreJudged, HasSidesBy, IsCircuitFor, WritesCircuit}
 use Rattle.omega_laws.specs.RealizedFormulas.{SaysWhoWins, outputs_of}
-use Rattle.omega_laws.proofs.containing.Alike.{PartsAreOne, same_sides, turned}
-use Rattle.omega_laws.proofs.containing.Described.{HaveSameParts, described, named_alike}
-use Rattle.omega_laws.proofs.containing.Realizing.{Known, outputs_are, says}
+use Rattle.omega_laws.proofs.saying.Alike.{PartsAreOne, same_sides, turned}
+use Rattle.omega_laws.proofs.saying.Described.{HaveSameParts, described, named_alike}
+use Rattle.omega_laws.proofs.saying.Realizing.{Known, outputs_are, says}
 
 pub circuits_judged : PartsAreOne → CircuitsOfTextsAreOne → CircuitVerdictsAreExact → CircuitsAreJudged
 circuits_judged parts circuits exact decided file input output explain exit answer =

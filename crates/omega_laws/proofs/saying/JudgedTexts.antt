@@ -22,9 +22,9 @@ use Rattle.omega_answers_synth.specs.Outputs.{AreParted, NameLists, output_numbe
 use Rattle.omega_laws.specs.Describes.{Describes}
 use Rattle.omega_laws.specs.JudgedTexts.{ControlsOutputs, FormulaControllersAreJudged, FormulaCounterStrategiesAreJudged, SaysOfFormula}
 use Rattle.omega_laws.specs.RealizedFormulas.{outputs_of}
-use Rattle.omega_laws.proofs.containing.Alike.{PartsAreOne, same_controller, same_counter_strategy, turned}
-use Rattle.omega_laws.proofs.containing.Described.{HaveSameParts, described}
-use Rattle.omega_laws.proofs.containing.Realizing.{outputs_are}
+use Rattle.omega_laws.proofs.saying.Alike.{PartsAreOne, same_controller, same_counter_strategy, turned}
+use Rattle.omega_laws.proofs.saying.Described.{HaveSameParts, described}
+use Rattle.omega_laws.proofs.saying.Realizing.{outputs_are}
 
 no_done : No ≡ Done → ⊥
 no_done e = cc

@@ -25,7 +25,7 @@ use Rattle.omega_answers_synth.specs.Parting.{AreAlike, AreControlledAlike, AreS
 use Rattle.omega_answers_circuit.specs.Sides.{IsSided}
 use Rattle.omega_answers_circuit.specs.Verify.{IsSidedBy}
 use Rattle.omega_laws.specs.Describes.{Describes}
-use Rattle.omega_laws.proofs.containing.Described.{HaveSameParts, accepted_alike, named_alike, same_step, same_taken}
+use Rattle.omega_laws.proofs.saying.Described.{HaveSameParts, accepted_alike, named_alike, same_step, same_taken}
 
 -- automata that one text describes have the same parts
 abbrev pub PartsAreOne : Type 0

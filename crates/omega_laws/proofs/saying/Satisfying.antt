@@ -35,7 +35,7 @@ use Rattle.omega_answers_formula.specs.SatisfiesWord.{IsSatisfiesWordAnswer, wor
 use Rattle.omega_laws.specs.Describes.{DescribedAreAlike, Describes}
 use Rattle.omega_laws.specs.FormulaTexts.{AdmittedWordsSatisfy, EqualTextsHaveTheWords, IsViolation, SatisfyingTextsSatisfy, SaysAllSatisfy, SaysOfTexts, SaysTheSame}
 use Rattle.omega_laws.specs.TellsWords.{TellsWords}
-use Rattle.omega_laws.proofs.containing.Said.{answered_as, said_of_automata, said_of_texts}
+use Rattle.omega_laws.proofs.saying.Said.{answered_as, said_of_automata, said_of_texts}
 
 module _ (alike : DescribedAreAlike) (writable : ReadAutomataAreWritable) (formulas_one : FormulasOfTextsAreOne) (names : FormulaNamesAreStrings)
     (text : List ℕ) (explain : Bool) where

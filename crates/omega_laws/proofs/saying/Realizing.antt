@@ -17,7 +17,7 @@ use Rattle.omega_synth_formula.specs.declared.judgement.FormulaJudgement.TheVari
 use Rattle.omega_answers_synth.specs.FormulaWinner.{IsFormulaWinner, IsFormulaWinnerAnswer}
 use Rattle.omega_answers_synth.specs.Outputs.{ArePartedBy, NameLists, names_without, output_numbers, outputs_by, outputs_in}
 use Rattle.omega_laws.specs.RealizedFormulas.{FormulaWinnersAreExact, RealizeFormulaAnswersAreExact, SaysWhoWins, TellsWhoWinsFormula, outputs_of}
-use Rattle.omega_laws.proofs.containing.Plays.{beaten, not_both, realized}
+use Rattle.omega_laws.proofs.saying.Plays.{beaten, not_both, realized}
 use Rattle.omega_laws.proofs.containing.Texts.{is_automaton}
 
 -- the laws that it rests on
