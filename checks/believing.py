@@ -61,6 +61,10 @@ EXACT = {
         ("omega_laws.specs.JudgedCircuits", "FormulaCircuitsAreJudged", frozenset({"IsFormulaCircuitAnswer"})),
     "`omega realize -f --aiger`, the law `formula_circuits_are_exact`":
         ("omega_laws.specs.JudgedCircuits", "FormulaCircuitsAreExact", frozenset({"IsFormulaCircuitWritten"})),
+    "`omega realize --controller`, the law `winners_of_texts_are_exact`":
+        ("omega_laws.specs.SpecificationTexts", "WinnersOfTextsAreExact", frozenset({"IsWinnerAnswer"})),
+    "`omega realize --aiger`, the law `winning_circuits_are_exact`":
+        ("omega_laws.specs.JudgedCircuits", "WinningCircuitsAreExact", frozenset({"IsWinningCircuitAnswer"})),
     "`omega verify --specification` of a circuit, the law `circuits_are_judged`":
         ("omega_laws.specs.JudgedCircuits", "CircuitsAreJudged", frozenset({"IsCircuitAnswer"})),
     "`omega verify --specification`, the law `controller_texts_are_judged`":

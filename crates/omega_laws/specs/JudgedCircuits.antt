@@ -1,9 +1,10 @@
--- Laws of what `verify` answers of circuits, and of the circuits that `realize -f --aiger` writes, in words of what
--- texts describe.
+-- Laws of what `verify` answers of circuits, and of the circuits that `realize --aiger` writes, in words of what texts
+-- describe.
 use Rattle.std.specs.Prelude.{◌≡◌, ◌↔◌, Bool, List, ℕ, codes}
 use Rattle.omega_text.specs.Omniscience.{LimitedPrincipleOfOmniscience}
 use Rattle.omega_aiger.specs.Text.{IsCircuitText}
 use Rattle.omega_circuit.specs.Circuit.{CircuitValue}
+use Rattle.omega_hoa_automaton.specs.Automaton.{Description}
 use Rattle.omega_io.specs.Answer.{IsYes}
 use Rattle.omega_io.specs.declared.exit.Exit.{Exit}
 use Rattle.omega_io.specs.declared.exit.Exit.TheVariants.{Done, No}
@@ -13,17 +14,20 @@ use Rattle.omega_ltl_formula.specs.Formula.{FormulaTree}
 use Rattle.omega_ltl_formula.specs.Meaning.{Satisfies}
 use Rattle.omega_ltl_text.specs.Text.{SaysFormula}
 use Rattle.omega_synth_check.specs.CounterRefusing.{system_numbers}
+use Rattle.omega_synth_controllers.specs.Controllable.{IsStated}
 use Rattle.omega_answers_circuit.specs.FormulaCircuit.{IsFormulaCircuitWritten}
 use Rattle.omega_answers_circuit.specs.FormulaVerify.{IsFormulaCircuitAnswer}
 use Rattle.omega_answers_circuit.specs.Judging.{AllAreWanted}
 use Rattle.omega_answers_circuit.specs.Sides.{AreSided, input_names, output_names}
 use Rattle.omega_answers_circuit.specs.Verify.{IsCircuitAnswer, IsSidedBy}
+use Rattle.omega_answers_circuit.specs.WinningCircuit.{IsWinningCircuitAnswer}
 use Rattle.omega_answers_circuit.specs.WritingLaws.{NamesSides}
 use Rattle.omega_answers_circuit.specs.declared.circuit_form.CircuitForm.{CircuitForm}
 use Rattle.omega_answers_synth.specs.Outputs.{NameLists}
 use Rattle.omega_text.specs.NamedWords.{NamedWord}
 use Rattle.omega_laws.specs.Describes.{Describes}
 use Rattle.omega_laws.specs.RealizedFormulas.{SaysWhoWins, outputs_of}
+use Rattle.omega_laws.specs.SpecificationTexts.{SaysWhoWinsText}
 
 -- what an answer says of the text of a specification and of that of a circuit: the one says something, the other says a
 -- circuit, and whatever they say, the circuit has the sides that the specification says, and the answer is `yes`
@@ -76,3 +80,26 @@ FormulaCircuitsAreExact = LimitedPrincipleOfOmniscience
     → IsFormulaCircuitWritten form text lists exit output
     → SaysWhoWins text lists exit
     × ((tree : FormulaTree) → SaysFormula text tree → WritesCircuit tree (outputs_of lists tree) exit output)
+
+-- a text is that of a circuit each word of which an automaton accepts. Its inputs and outputs are the propositions of
+-- the automaton
+pub record IsCircuitOf (a : Description) (controlled : List ℕ) (text : List ℕ) : Type 0 where
+  pub circuit : CircuitValue
+  pub says : IsCircuitText text circuit
+  pub named : NamesSides a.propositions controlled circuit
+  pub accepted : AllAreWanted (AcceptsNamed a) circuit
+
+-- what `realize --aiger` writes: such a circuit, where the item of the automaton says what the system controls, or the
+-- line that there is none
+abbrev pub WritesCircuitOf : Description → Exit → (output : List ℕ) → Type 0
+WritesCircuitOf a Done output =
+    (controlled : List ℕ) × IsStated a controlled × IsCircuitOf a controlled output
+WritesCircuitOf a No output = output ≡ codes "unrealizable\n"
+
+-- by that principle, its exit says who wins, and it writes so for each automaton that the text describes
+abbrev pub WinningCircuitsAreExact : Type 0
+WinningCircuitsAreExact = LimitedPrincipleOfOmniscience
+    → (form : CircuitForm) (text output : List ℕ) (exit : Exit)
+    → IsWinningCircuitAnswer form text exit output
+    → SaysWhoWinsText text exit
+    × ((a : Description) → Describes text a → WritesCircuitOf a exit output)

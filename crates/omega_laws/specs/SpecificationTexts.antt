@@ -13,6 +13,7 @@ use Rattle.omega_answers_synth.specs.FormulaWinner.{verdict_line}
 use Rattle.omega_answers_synth.specs.Laws.{TellsWhoWins}
 use Rattle.omega_answers_synth.specs.Parting.{AreControlledAlike, AreSystemNames}
 use Rattle.omega_answers_synth.specs.Verify.{IsControllerAnswer}
+use Rattle.omega_answers_synth.specs.Winner.{IsWinnerAnswer}
 use Rattle.omega_laws.specs.Describes.{Describes, DescribesSome}
 
 -- the automaton has the item that says what the system controls, and this tells who wins it
@@ -21,16 +22,20 @@ pub record TellsWhoWinsStated (a : Description) (exit : Exit) : Type 0 where
   pub stated : IsStated a controlled
   pub wins : TellsWhoWins a controlled exit
 
--- the text describes an automaton, the exit tells so of each that it describes, and the line says it
-pub record SaysWhoWinsText (text : List ℕ) (exit : Exit) (output : List ℕ) : Type 0 where
+-- the text describes an automaton, and the exit tells so of each that it describes
+pub record SaysWhoWinsText (text : List ℕ) (exit : Exit) : Type 0 where
   pub described : DescribesSome text
   pub of_all : (a : Description) → Describes text a → TellsWhoWinsStated a exit
-  pub line : output ≡ verdict_line exit
 
--- by the limited principle of omniscience, an answer of `realize` says who wins
+-- by the limited principle of omniscience, an answer of `realize` says who wins, and is the line that tells it
 abbrev pub RealizedTextsAreExact : Type 0
 RealizedTextsAreExact = LimitedPrincipleOfOmniscience → (text output : List ℕ) (exit : Exit)
-    → IsDecisionAnswer text exit output → SaysWhoWinsText text exit output
+    → IsDecisionAnswer text exit output → SaysWhoWinsText text exit × (output ≡ verdict_line exit)
+
+-- by that principle, the exit of `realize --controller` says the same
+abbrev pub WinnersOfTextsAreExact : Type 0
+WinnersOfTextsAreExact = LimitedPrincipleOfOmniscience → (text output : List ℕ) (exit : Exit)
+    → IsWinnerAnswer text exit output → SaysWhoWinsText text exit
 
 -- two texts describe automata, and this holds of whatever two they describe
 pub record SaysOfAutomata (Holds : Description → Description → Type 0) (file input : List ℕ) : Type 0 where

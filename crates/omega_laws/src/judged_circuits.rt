@@ -1,14 +1,17 @@
-//! Laws of what `verify` answers of circuits, and of the circuits that `realize -f --aiger` writes, in words of what
-//! texts describe: each call does nothing and states one law.
+//! Laws of what `verify` answers of circuits, and of the circuits that `realize --aiger` writes, in words of what texts
+//! describe: each call does nothing and states one law.
 
 ghost use Rattle.omega_laws.specs.JudgedCircuits.{CircuitsAreJudged, FormulaCircuitsAreExact};
-ghost use Rattle.omega_laws.specs.JudgedCircuits.{FormulaCircuitsAreJudged};
+ghost use Rattle.omega_laws.specs.JudgedCircuits.{FormulaCircuitsAreJudged, WinningCircuitsAreExact};
 
+use crate::specification_texts::winners_of_texts_are_exact;
 use omega_aiger::laws::circuits_of_texts_are_one;
 use omega_answers_circuit::judging_laws::{
     circuit_verdicts_are_exact, formula_circuit_verdicts_are_exact,
 };
-use omega_answers_circuit::writing_laws::written_formula_circuits_satisfy;
+use omega_answers_circuit::writing_laws::{
+    written_circuits_realize, written_formula_circuits_satisfy,
+};
 use omega_hoa_automaton::meanings_are_automata;
 use omega_hoa_syntax::raws_are_one;
 use omega_lang_word_laws::words_are_named;
@@ -57,4 +60,16 @@ pub fn formula_circuits_are_exact()
     controllers_realize_formulas();
     counter_strategies_beat_formulas();
     written_formula_circuits_satisfy();
+}
+
+/// Shows what `realize --aiger` writes of a specification: where some strategy of the system realizes the automaton
+/// that the text describes, a circuit over its propositions each word of which it accepts, and where some strategy of
+/// the environment beats it the line `unrealizable`. It has the same premise.
+pub fn winning_circuits_are_exact()
+    ensures { WinningCircuitsAreExact }
+{
+    cuts_are_one::<HoaKind>();
+    raws_are_one();
+    winners_of_texts_are_exact();
+    written_circuits_realize();
 }

@@ -54,6 +54,7 @@ pub use inclusion_texts::{
 };
 pub use judged_circuits::{
     circuits_are_judged, formula_circuits_are_exact, formula_circuits_are_judged,
+    winning_circuits_are_exact,
 };
 pub use judged_texts::{formula_controllers_are_judged, formula_counter_strategies_are_judged};
 pub use lifted_answers::lifted_answers_end;
@@ -66,6 +67,7 @@ pub use product_texts::products_are_read_back;
 pub use realized_formulas::{formula_winners_are_exact, realize_formula_answers_are_exact};
 pub use specification_texts::{
     controller_texts_are_judged, counter_texts_are_judged, realized_texts_are_exact,
+    winners_of_texts_are_exact,
 };
 pub use trimming::trimmed_meetings_accept_both;
 pub use trims::{trimmed_texts_accept_the_same, trims_accept_the_same, trims_are_one};

@@ -2,10 +2,11 @@
 //! does nothing and states one law.
 
 ghost use Rattle.omega_laws.specs.SpecificationTexts.{ControllerTextsAreJudged, CounterTextsAreJudged};
-ghost use Rattle.omega_laws.specs.SpecificationTexts.{RealizedTextsAreExact};
+ghost use Rattle.omega_laws.specs.SpecificationTexts.{RealizedTextsAreExact, WinnersOfTextsAreExact};
 
 use omega_answers_synth::{
     controller_answers_are_exact, counter_answers_are_exact, realize_answers_are_exact,
+    winner_answers_are_exact,
 };
 use omega_hoa_syntax::raws_are_one;
 use omega_text::HoaKind;
@@ -20,6 +21,15 @@ pub fn realized_texts_are_exact()
     cuts_are_one::<HoaKind>();
     raws_are_one();
     realize_answers_are_exact();
+}
+
+/// Shows that the exit of `realize --controller` says the same, with the same premise.
+pub fn winners_of_texts_are_exact()
+    ensures { WinnersOfTextsAreExact }
+{
+    cuts_are_one::<HoaKind>();
+    raws_are_one();
+    winner_answers_are_exact();
 }
 
 /// Shows that `verify --specification` answers `yes` exactly if the automaton that the one text describes is a

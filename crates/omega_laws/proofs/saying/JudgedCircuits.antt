@@ -1,5 +1,6 @@
--- What `verify` answers of circuits, and which circuits `realize -f --aiger` writes.
-use Rattle.std.proofs.Common.{◌≡◌, ◌↔◌, ℕ, List, subst}
+-- What `verify` answers of circuits, and which circuits `realize --aiger` writes.
+use Rattle.std.proofs.Common.{◌≡◌, ◌↔◌, ℕ, List, sym, ap, subst, ◌∙◌}
+use Rattle.std.specs.List.{list_any}
 use Rattle.omega_aiger.specs.Laws.{CircuitsOfTextsAreOne}
 use Rattle.omega_circuit.specs.Circuit.{CircuitValue}
 use Rattle.omega_hoa_automaton.specs.Automaton.{Description}
@@ -14,17 +15,20 @@ use Rattle.omega_ltl_formula.specs.Table.{NumberedFormula, tree_of}
 use Rattle.omega_ltl_text.specs.Laws.{FormulasOfTextsAreOne}
 use Rattle.omega_ltl_text.specs.Text.{SaysFormula}
 use Rattle.omega_synth_check.specs.CounterRefusing.{system_numbers}
+use Rattle.omega_synth_controllers.specs.Controllable.{is_controllable_item}
 use Rattle.omega_answers_circuit.specs.FormulaCircuit.{IsFormulaCircuitWritten}
 use Rattle.omega_answers_circuit.specs.Judging.{AllAreWanted}
 use Rattle.omega_answers_circuit.specs.JudgingLaws.{CircuitVerdictsAreExact, FormulaCircuitVerdictsAreExact}
 use Rattle.omega_answers_circuit.specs.Sides.{AreSided, input_names, output_names}
 use Rattle.omega_answers_circuit.specs.Verify.{IsSidedBy}
-use Rattle.omega_answers_circuit.specs.WritingLaws.{IsSatisfiedBy, NamesSides, WrittenFormulaCircuitsSatisfy}
+use Rattle.omega_answers_circuit.specs.WinningCircuit.{IsWinningCircuitAnswer}
+use Rattle.omega_answers_circuit.specs.WritingLaws.{IsRealizedBy, IsSatisfiedBy, NamesSides, WrittenCircuitsRealize, WrittenFormulaCircuitsSatisfy}
 use Rattle.omega_answers_synth.specs.Outputs.{outputs_in}
 use Rattle.omega_laws.specs.Describes.{Describes}
-use Rattle.omega_laws.specs.JudgedCircuits.{CircuitsAreJudged, FormulaCircuitsAreExact, FormulaCircuitsAreJudged, HasSidesBy, IsCircuitFor, WritesCircuit}
+use Rattle.omega_laws.specs.JudgedCircuits.{CircuitsAreJudged, FormulaCircuitsAreExact, FormulaCircuitsAreJudged, HasSidesBy, IsCircuitFor, WinningCircuitsAreExact, WritesCircuit, WritesCircuitOf}
 use Rattle.omega_laws.specs.RealizedFormulas.{SaysWhoWins, outputs_of}
-use Rattle.omega_laws.proofs.saying.Alike.{PartsAreOne, same_sides, turned}
+use Rattle.omega_laws.specs.SpecificationTexts.{SaysWhoWinsText, WinnersOfTextsAreExact}
+use Rattle.omega_laws.proofs.saying.Alike.{PartsAreOne, same_controlled, same_sides, turned}
 use Rattle.omega_laws.proofs.saying.Described.{HaveSameParts, described, named_alike}
 use Rattle.omega_laws.proofs.saying.Realizing.{Known, outputs_are, says}
 
@@ -85,3 +89,28 @@ circuits_exact known law decided form text output lists exit written = go exit w
         → SaysWhoWins text lists exit × ((tree : FormulaTree) → SaysFormula text tree → WritesCircuit tree (outputs_of lists tree) exit output)
     go Done satisfying = (says known decided text satisfying.made.controller lists Done satisfying.made.won, circuit_for (law form text lists output satisfying))
     go No told = (says known decided text told.strategy lists No told.lost, λ tree said. told.line)
+
+pub winning_circuits_exact : PartsAreOne → WinnersOfTextsAreExact → WrittenCircuitsRealize → WinningCircuitsAreExact
+winning_circuits_exact parts winners law decided form text output exit written = go exit written
+  where
+    circuit_of : IsRealizedBy text output → (b : Description) → Describes text b → WritesCircuitOf b Done output
+    circuit_of is b there =
+        let a : Description = is.automaton in
+        let same : HaveSameParts a b = parts text a b (described text a is.read) there in (
+          is.controlled,
+          record {
+            item = ap (list_any is_controllable_item) (sym same.unknown) ∙ is.stated.item;
+            controlled = same_controlled a b same is.controlled is.stated.controlled;
+          },
+          record {
+            circuit = is.circuit;
+            says = is.says;
+            named = subst (λ (names : List (List ℕ)). NamesSides names is.controlled is.circuit) same.propositions is.named;
+            accepted = λ word of. named_alike a b same word (is.realizes decided word of);
+          },
+        )
+
+    go : (exit : Exit) → IsWinningCircuitAnswer form text exit output
+        → SaysWhoWinsText text exit × ((b : Description) → Describes text b → WritesCircuitOf b exit output)
+    go Done realizing = (winners decided text realizing.made.controller Done realizing.made.won, circuit_of (law form text output realizing))
+    go No told = (winners decided text told.strategy No told.lost, λ b there. told.line)

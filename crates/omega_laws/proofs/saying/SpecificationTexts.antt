@@ -2,43 +2,52 @@
 use Rattle.std.proofs.Common.{◌≡◌, ◌↔◌, List, ℕ, codes, refl, sym, ap, ◌∙◌}
 use Rattle.std.specs.List.{list_any}
 use Rattle.omega_hoa_automaton.specs.Automaton.{Description}
+use Rattle.omega_hoa.specs.Alone.{IsAutomatonText}
 use Rattle.omega_io.specs.Answer.{IsYes}
 use Rattle.omega_io.specs.declared.exit.Exit.{Exit}
 use Rattle.omega_io.specs.declared.exit.Exit.TheVariants.{Done, No}
 use Rattle.omega_synth_check.specs.CounterJudging.{IsCounterStrategyFor}
 use Rattle.omega_synth_check.specs.Judging.{IsControllerFor}
-use Rattle.omega_synth_controllers.specs.Controllable.{is_controllable_item}
+use Rattle.omega_synth_controllers.specs.Controllable.{IsStated, is_controllable_item}
 use Rattle.omega_answers_synth.specs.FormulaWinner.{verdict_line}
-use Rattle.omega_answers_synth.specs.Laws.{ControllerAnswersAreExact, CounterAnswersAreExact, RealizeAnswersAreExact}
+use Rattle.omega_answers_synth.specs.Laws.{ControllerAnswersAreExact, CounterAnswersAreExact, RealizeAnswersAreExact, TellsWhoWins, WinnerAnswersAreExact}
 use Rattle.omega_laws.specs.Describes.{Describes}
-use Rattle.omega_laws.specs.SpecificationTexts.{ControllerTextsAreJudged, CounterTextsAreJudged, RealizedTextsAreExact}
+use Rattle.omega_laws.specs.SpecificationTexts.{ControllerTextsAreJudged, CounterTextsAreJudged, RealizedTextsAreExact, SaysWhoWinsText, WinnersOfTextsAreExact}
 use Rattle.omega_laws.proofs.saying.Alike.{PartsAreOne, same_controlled, same_countered, same_parted, same_specified, same_system, same_winner, turned}
 use Rattle.omega_laws.proofs.saying.Described.{HaveSameParts, described}
 
-pub realized_exact : PartsAreOne → RealizeAnswersAreExact → RealizedTextsAreExact
-realized_exact parts exact decided text output exit answer =
-    let a : Description = answer.automaton in
-    let here : Describes text a = described text a answer.read in
-    let stated = answer.holds.stated in
-    let told = exact decided text output exit a answer.holds.controlled answer answer.read stated.controlled in
+-- what is told of the automaton that was read is told of each that the text describes
+told_of_all : PartsAreOne → (text : List ℕ) (exit : Exit) (a : Description) (controlled : List ℕ) → IsAutomatonText text a → IsStated a controlled
+    → TellsWhoWins a controlled exit → SaysWhoWinsText text exit
+told_of_all parts text exit a controlled own stated told =
+    let here : Describes text a = described text a own in
     record {
       described = (a, here);
       of_all = λ b there.
           (let same : HaveSameParts a b = parts text a b here there in
           record {
-            controlled = answer.holds.controlled;
+            controlled = controlled;
             stated = record {
               item = ap (list_any is_controllable_item) (sym same.unknown) ∙ stated.item;
-              controlled = same_controlled a b same answer.holds.controlled stated.controlled;
+              controlled = same_controlled a b same controlled stated.controlled;
             };
-            wins = same_winner a b same answer.holds.controlled exit told.0;
+            wins = same_winner a b same controlled exit told;
           });
-      line = line exit told.1 told.2;
     }
+
+pub realized_exact : PartsAreOne → RealizeAnswersAreExact → RealizedTextsAreExact
+realized_exact parts exact decided text output exit answer =
+    let told = exact decided text output exit answer.automaton answer.holds.controlled answer answer.read answer.holds.stated.controlled in
+    (told_of_all parts text exit answer.automaton answer.holds.controlled answer.read answer.holds.stated told.0, line exit told.1 told.2)
   where
     line : (exit : Exit) → (exit ≡ Done) ↔ (output ≡ codes "realizable\n") → (exit ≡ No) ↔ (output ≡ codes "unrealizable\n") → output ≡ verdict_line exit
     line Done win lose = win.0 refl
     line No win lose = lose.0 refl
+
+pub winners_exact : PartsAreOne → WinnerAnswersAreExact → WinnersOfTextsAreExact
+winners_exact parts exact decided text output exit answer =
+    told_of_all parts text exit answer.automaton answer.holds.controlled answer.read answer.holds.stated
+    (exact decided text output exit answer.automaton answer.holds.controlled answer answer.read answer.holds.stated.controlled)
 
 pub controllers_exact : PartsAreOne → ControllerAnswersAreExact → ControllerTextsAreJudged
 controllers_exact parts exact decided file input output explain exit answer =
