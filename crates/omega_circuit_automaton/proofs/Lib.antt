@@ -1,5 +1,6 @@
 -- Lemmas by what they are about: rounds, cubes, labels, and the edges of a state.
 pub mod Rounds
+pub mod LaneBits
 pub mod Cubes
 pub mod LabelLemmas
 pub mod Growing

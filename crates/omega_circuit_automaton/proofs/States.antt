@@ -1,8 +1,8 @@
 -- The states, one after the other.
-use Rattle.std.proofs.Common.{◌≡◌, inl, inr, ℕ, ◌<◌, ◌==◌, Bool, List, [], ◌∷◌, ◌++◌, length, get_or, refl, sym, ap, ◌∙◌, subst, arith}
+use Rattle.std.proofs.Common.{◌≡◌, inl, inr, ℕ, ◌<◌, ◌==◌, Bool, List, [], ◌∷◌, ◌++◌, ◌-◌, ◌≤◌, take, drop, ◌+◌, length, get_or, refl, sym, ap, ◌∙◌, subst, arith}
 use Rattle.std.specs.Prelude.{All}
 use Rattle.std.proofs.lemmas.Bool.{cases_lt}
-use Rattle.std.proofs.lemmas.List.{get_or_append_left, length-append, length-map}
+use Rattle.std.proofs.lemmas.List.{get_or-drop, get_or-take, get_or_append_left, length-append, length-drop, length-map, length-take}
 use Rattle.std.proofs.lemmas.List.Elements.{All-append, All-push}
 use Rattle.omega_hoa_syntax.specs.declared.raw_state.RawState.{RawState}
 use Rattle.omega_circuit.specs.Circuit.{CircuitValue}
@@ -56,3 +56,14 @@ module _ (c : CircuitValue) (old new : List (List Bool)) (adds : AddsValuations 
           subst (λ (n : ℕ). IsWrittenState c new n (get_or (states ++ state ∷ []) n d)) last (subst (IsWrittenState c new (length states)) (sym (last_at states state d)) added))
     ];
   }
+
+-- the valuations of the states from one to another
+module _ (all : List (List Bool)) (first last lane : ℕ) (within : last ≤ length all) (low : first + lane < last) where
+  short : lane < last - first
+  short = omega (arith, low)
+
+  pub lane_within : lane < length (take (last - first) (drop first all))
+  lane_within = omega (arith, low, within, length-take (last - first) (drop first all), length-drop first all)
+
+  pub lane_valuation : valuation_at (take (last - first) (drop first all)) lane ≡ valuation_at all (first + lane)
+  lane_valuation = get_or-take (last - first) (drop first all) lane [] short ∙ get_or-drop first all lane []

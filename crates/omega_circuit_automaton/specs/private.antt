@@ -1,5 +1,6 @@
 -- Definitions that no contract of a public function cites.
 pub mod Ternary
+pub mod Lanes
 pub mod Cuts
 pub mod Labels
 pub mod Written

@@ -4,9 +4,12 @@ ghost use Rattle.std.specs.Prelude.{◌≡◌, ◌<◌, ℕ, Bool, true, IfOk, I
 ghost use Rattle.omega_circuit.specs.Rounds.{literal_value};
 ghost use Rattle.omega_circuit_automaton.specs.declared.ternary.Ternary.TheVariants.{True, Unknown};
 ghost use Rattle.omega_circuit_automaton.specs.private.Cuts.{AreEnds, IsOutcome, is_true, next_values};
-ghost use Rattle.omega_circuit_automaton.specs.private.Ternary.{IsSound, ternary_at};
+ghost use Rattle.omega_circuit_automaton.specs.private.Lanes.{IsLaneOf, IsSound};
+ghost use Rattle.omega_circuit_automaton.specs.private.Ternary.{ternary_at};
 
-use crate::evaluator::{Evaluator, value_of};
+use crate::evaluator::Evaluator;
+use crate::lanes::Lane;
+use crate::table::Table;
 use crate::ternary::Ternary;
 use omega_circuit::{Circuit, Latch};
 use std::alloc::{AllocError, Global};
@@ -35,18 +38,20 @@ pub(crate) fn outcome_of(
     alloc: Global,
     circuit: &Circuit,
     evaluator: &mut Evaluator,
+    lane: Lane<'_>,
     latches: &[bool],
     cube: &[Ternary],
 ) -> Result<Outcome, AllocError>
+    requires lane { IsLaneOf circuit.now latches.now lane.bit lane.known.now }
     requires latches { length latches.now ≡ length circuit.now.latches }
     requires inputs { length cube.now ≡ length circuit.now.inputs }
     ensures { IfOk result (IsOutcome circuit.now latches.now cube.now) }
 {
-    evaluator.evaluate(circuit, latches, cube);
-    if let Some(ends) = known_ends(alloc, circuit, evaluator.table.known.as_slice())? {
+    evaluator.evaluate(circuit, lane, cube)?;
+    if let Some(ends) = known_ends(alloc, circuit, &evaluator.table, lane)? {
         return Ok(Outcome::Ends(ends));
     }
-    match evaluator.input_to_split(circuit, cube) {
+    match evaluator.input_to_split(circuit, lane, cube) {
         Some(input) => Ok(Outcome::Split(input)),
         None => Ok(Outcome::Ends(full_ends(alloc, circuit, latches, cube)?)),
     }
@@ -56,21 +61,22 @@ pub(crate) fn outcome_of(
 fn known_ends(
     alloc: Global,
     circuit: &Circuit,
-    known: &[Ternary],
+    table: &Table,
+    lane: Lane<'_>,
 ) -> Result<Option<Ends>, AllocError>
-    ensures outputs { IfOk result (λ found. IfSome found (λ ends. (round : ℕ → Bool) → IsSound round known.now
+    ensures outputs { IfOk result (λ found. IfSome found (λ ends. (round : ℕ → Bool) → IsSound lane.entry.bit round lane.entry.known.now table.now.entries.items
         → ends.outputs.items ≡ map (λ literal. literal_value round literal) circuit.now.outputs)) }
-    ensures nexts { IfOk result (λ found. IfSome found (λ ends. (round : ℕ → Bool) → IsSound round known.now
+    ensures nexts { IfOk result (λ found. IfSome found (λ ends. (round : ℕ → Bool) → IsSound lane.entry.bit round lane.entry.known.now table.now.entries.items
         → ends.nexts.items ≡ next_values circuit.now.latches round)) }
     ensures outputs_long { IfOk result (λ found. IfSome found
         (λ ends. length ends.outputs.items ≡ length circuit.now.outputs)) }
     ensures nexts_long { IfOk result (λ found. IfSome found
         (λ ends. length ends.nexts.items ≡ length circuit.now.latches)) }
 {
-    let Some(outputs) = known_outputs(alloc, circuit.outputs(), known)? else {
+    let Some(outputs) = known_outputs(alloc, circuit.outputs(), table, lane)? else {
         return Ok(None);
     };
-    let Some(nexts) = known_nexts(alloc, circuit.latches(), known)? else {
+    let Some(nexts) = known_nexts(alloc, circuit.latches(), table, lane)? else {
         return Ok(None);
     };
     Ok(Some(Ends { outputs, nexts }))
@@ -80,16 +86,17 @@ fn known_ends(
 fn known_outputs(
     alloc: Global,
     literals: &[u32],
-    known: &[Ternary],
+    table: &Table,
+    lane: Lane<'_>,
 ) -> Result<Option<Vec<bool>>, AllocError>
     ensures values { IfOk result (λ found. IfSome found
-        (λ values. (round : ℕ → Bool) → IsSound round known.now
+        (λ values. (round : ℕ → Bool) → IsSound lane.entry.bit round lane.entry.known.now table.now.entries.items
         → values.items ≡ map (λ literal. literal_value round literal) literals.now)) }
     ensures long { IfOk result (λ found. IfSome found (λ values. length values.items ≡ length literals.now)) }
 {
     let mut values = Vec::new(alloc);
     for literal in literals {
-        let Some(value) = known_value(known, *literal) else {
+        let Some(value) = known_value(table, lane, *literal) else {
             return Ok(None);
         };
         values.push(value)?;
@@ -101,16 +108,17 @@ fn known_outputs(
 fn known_nexts(
     alloc: Global,
     latches: &[Latch],
-    known: &[Ternary],
+    table: &Table,
+    lane: Lane<'_>,
 ) -> Result<Option<Vec<bool>>, AllocError>
     ensures values { IfOk result (λ found. IfSome found
-        (λ values. (round : ℕ → Bool) → IsSound round known.now
+        (λ values. (round : ℕ → Bool) → IsSound lane.entry.bit round lane.entry.known.now table.now.entries.items
         → values.items ≡ next_values latches.now round)) }
     ensures long { IfOk result (λ found. IfSome found (λ values. length values.items ≡ length latches.now)) }
 {
     let mut values = Vec::new(alloc);
     for latch in latches {
-        let Some(value) = known_value(known, latch.next) else {
+        let Some(value) = known_value(table, lane, latch.next) else {
             return Ok(None);
         };
         values.push(value)?;
@@ -119,11 +127,11 @@ fn known_nexts(
 }
 
 /// Returns the value of a literal, or `None` if it is unknown.
-fn known_value(known: &[Ternary], literal: u32) -> Option<bool>
-    ensures { IfSome result (λ value. (round : ℕ → Bool) → IsSound round known.now
+fn known_value(table: &Table, lane: Lane<'_>, literal: u32) -> Option<bool>
+    ensures { IfSome result (λ value. (round : ℕ → Bool) → IsSound lane.entry.bit round lane.entry.known.now table.now.entries.items
         → literal_value round literal ≡ value) }
 {
-    match value_of(known, literal) {
+    match table.value_of(lane, literal) {
         Ternary::False => Some(false),
         Ternary::True => Some(true),
         Ternary::Unknown => None,

@@ -5,12 +5,14 @@ ghost use Rattle.std.specs.Prelude.{length, replicate, slice_set, sum_by};
 ghost use Rattle.omega_hoa_automaton.specs.Limits.{most_propositions};
 ghost use Rattle.omega_circuit_automaton.specs.declared.ternary.Ternary.TheVariants.{False, True, Unknown};
 ghost use Rattle.omega_circuit_automaton.specs.private.Cuts.{AddsValuations, weight};
+ghost use Rattle.omega_circuit_automaton.specs.private.Lanes.{IsLaneOf};
 ghost use Rattle.omega_circuit_automaton.specs.private.Written.{AreEdgesOf, IsEdgeWith, IsSplitting};
 
 use crate::budget::Budget;
 use crate::ends::{Ends, Outcome, outcome_of};
 use crate::evaluator::Evaluator;
 use crate::labels::edge_label;
+use crate::lanes::Lane;
 use crate::ternary::Ternary;
 use crate::valuations::Valuations;
 use omega_circuit::Circuit;
@@ -42,17 +44,20 @@ pub(crate) fn edges_of(
     alloc: Global,
     circuit: &Circuit,
     exploration: &mut Exploration,
+    lane: Lane<'_>,
     latches: &[bool],
 ) -> Result<RawEdges, Refusal>
     requires few { length circuit.now.inputs + length circuit.now.outputs ≤ most_propositions }
+    requires lane { IsLaneOf circuit.now latches.now lane.bit lane.known.now }
     requires latches { length latches.now ≡ length circuit.now.latches }
     ensures edges { IfOk result (AreEdgesOf circuit.now exploration.new.valuations.all.items latches.now) }
     ensures adds { OnOk result (AddsValuations (length circuit.now.latches)
         exploration.old.valuations.all.items exploration.new.valuations.all.items) }
 {
+    exploration.evaluator.begin(lane)?;
     let mut splitting = Splitting::new(alloc, circuit.inputs().len())?;
     while let Some(cube) = splitting.pending.pop() {
-        splitting.step(alloc, circuit, exploration, latches, cube)?;
+        splitting.step(alloc, circuit, exploration, lane, latches, cube)?;
     }
     Ok(splitting.edges)
 }
@@ -77,10 +82,12 @@ impl Splitting {
         alloc: Global,
         circuit: &Circuit,
         exploration: &mut Exploration,
+        lane: Lane<'_>,
         latches: &[bool],
         cube: Seq<Ternary>,
     ) -> Result<(), Refusal>
         requires few { length circuit.now.inputs + length circuit.now.outputs ≤ most_propositions }
+        requires lane { IsLaneOf circuit.now latches.now lane.bit lane.known.now }
         requires latches { length latches.now ≡ length circuit.now.latches }
         requires splitting { IsSplitting circuit.now exploration.old.valuations.all.items latches.now
             (self.old.pending.items ++ cube ∷ []) self.old.edges }
@@ -92,7 +99,7 @@ impl Splitting {
             exploration.old.valuations.all.items exploration.new.valuations.all.items) }
     {
         let evaluator = &mut exploration.evaluator;
-        match outcome_of(alloc, circuit, evaluator, latches, cube.as_slice())? {
+        match outcome_of(alloc, circuit, evaluator, lane, latches, cube.as_slice())? {
             Outcome::Split(input) => push_halves(alloc, cube, input, &mut self.pending)?,
             Outcome::Ends(ends) => {
                 let edge = edge_of(alloc, exploration, cube.as_slice(), &ends)?;

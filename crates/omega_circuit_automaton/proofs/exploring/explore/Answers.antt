@@ -1,10 +1,10 @@
--- one state more
-use Rattle.std.proofs.Common.{◌≡◌, ◌<◌, ◌+◌, ℕ, Bool, List, [], length, subst, sym, ap, ◌∙◌, arith}
-use Rattle.std.proofs.lemmas.List.{length_push}
+-- some states more
+use Rattle.std.proofs.Common.{◌≡◌, ◌≤◌, ◌-◌, ◌^◌, ℕ, Bool, List, [], take, drop, length, subst, sym, ap, arith}
 use Rattle.omega_hoa_syntax.specs.declared.raw_state.RawState.{RawState}
-use Rattle.omega_circuit_automaton.specs.private.Written.{IsExploring, IsWrittenState}
-use Rattle.omega_circuit_automaton.proofs.Growing.{longer}
-use Rattle.omega_circuit_automaton.proofs.States.{exploring_more, exploring_none}
+use Rattle.omega_circuit_automaton.specs.declared.known.Known.{Known}
+use Rattle.omega_circuit_automaton.specs.private.Lanes.{AreLanesOf, IsLaneOf}
+use Rattle.omega_circuit_automaton.specs.private.Written.{IsExploring}
+use Rattle.omega_circuit_automaton.proofs.States.{exploring_none, lane_valuation, lane_within}
 use Rattle.omega_circuit_automaton.proofs.exploring.explore.Goals as goal
 
 pub loop-alloc-init : goal.loop-alloc-init
@@ -21,22 +21,27 @@ loop-alloc-init c =
 
 pub loop-alloc-preserved : goal.loop-alloc-preserved
 loop-alloc-preserved c =
-    let circuit = c.args.circuit.now in
-    let states : List RawState = c.loop-alloc.states.items in
-    let old : List (List Bool) = c.loop-alloc.exploration.valuations.all.items in
-    let new : List (List Bool) = c.state_of.new.exploration.valuations.all.items in
-    let state : RawState = c.in_ok-state.state in
-    let low : length states < length old = omega arith in
-    let at : c.len-number.result ≡ length states = omega arith in
-    let added : IsWrittenState circuit new (length states) state = subst (λ (n : ℕ). IsWrittenState circuit new n state) at c.in_ok-state.ensures.state in
-    let long = longer (length circuit.latches) old new c.in_ok-state.ensures.adds in
-    let pushed : length c.push.new.self.items ≡ length states + 1 = ap length c.in_ok-push.ensures.items ∙ length_push states state in
+    let after = c.in_ok-push_states.ensures in
     record {
-      exploring = subst (λ (sts : List RawState). IsExploring circuit new sts) (sym c.in_ok-push.ensures.items)
-          (exploring_more circuit old new c.in_ok-state.ensures.adds states state c.loop-alloc.invariant.exploring low added);
-      within = omega (arith, pushed, low, long);
-      few = omega arith;
+      exploring = after.exploring;
+      within = omega (arith, after.long, after.within);
+      few = omega (arith, after.long, after.small);
     }
+
+pub push_states-requires-clause-lanes : goal.push_states-requires-clause-lanes
+push_states-requires-clause-lanes c =
+    let all : List (List Bool) = c.loop-alloc.exploration.valuations.all.items in
+    let found : List (List Bool) = c.as_slice-found.result.now in
+    let known : List Known = c.evaluate.new.self.known.items in
+    let first : ℕ = length c.loop-alloc.states.items in
+    let last : ℕ = c.min-last.result in
+    let same : found ≡ all = c.as_slice-found.ensures.value in
+    let lanes : AreLanesOf c.args.circuit.now (take (last - first) (drop first all)) known =
+    subst (λ (n : ℕ). AreLanesOf c.args.circuit.now (take (last - n) (drop n all)) known) (let e : c.len-first.result ≡ first = omega arith in e)
+    (subst (λ (xs : List (List Bool)). AreLanesOf c.args.circuit.now (take (last - c.len-first.result) (drop c.len-first.result xs)) known) same c.in_ok-evaluate.ensures) in
+    let inside : last ≤ length all = omega (arith, ap length same) in
+    λ lane low. subst (λ (latches : List Bool). IsLaneOf c.args.circuit.now latches (2 ^ lane) known)
+    (lane_valuation all first last lane inside low) (lanes lane (lane_within all first last lane inside low))
 
 pub returns-clause-states : goal.returns-clause-states
 returns-clause-states c = record {
