@@ -1,7 +1,7 @@
 -- The automaton of a circuit as it is written means an automaton with the edges of its states.
 use Rattle.std.proofs.Common.{◌≡◌, inl, inr, ◌<◌, ◌≤◌, ◌+◌, ◌/◌, ℕ, zero, suc, Bool, true, false, Option, None, Some, List, [], ◌∷◌, length, get_or, map, slice_get, if◌then◌else◌, refl, sym, ap, subst, ◌∙◌, arith}
 use Rattle.std.specs.Prelude.{◌||◌, Contains, IfSome, IsTrue, nat_lt, option_and_then, option_map, sum_by, unwrap_or}
-use Rattle.std.specs.List.{filter_map, list_any}
+use Rattle.std.specs.List.{filter_map, flat_map, list_any}
 use Rattle.std.specs.Option.{option_or}
 use Rattle.std.proofs.lemmas.Bool.{cases_lt, le-ltb, lt-ltb}
 use Rattle.std.proofs.lemmas.List.{get_or_append_left, get_or_default}
@@ -14,7 +14,7 @@ use Rattle.omega_hoa_acceptance.specs.Meaning.{acc_meant}
 use Rattle.omega_hoa_automaton.specs.Automaton.{BodyEdge, Description, IsAutomaton, edge_at, edges_of}
 use Rattle.omega_hoa_automaton.specs.Branching.{has_universal_branching, state_branches}
 use Rattle.omega_hoa_automaton.specs.Faults.{definitions_of, mentioned_count}
-use Rattle.omega_hoa_automaton.specs.Items.{Accepted, Named, acc_name_in, acceptance_in, alias_in, first_said, name_in, propositions_in, start_in, states_in, unknown_in}
+use Rattle.omega_hoa_automaton.specs.Items.{Accepted, Named, acc_name_in, acceptance_in, alias_in, first_said, name_in, properties_in, propositions_in, start_in, states_in, tool_in, unknown_in}
 use Rattle.omega_hoa_automaton.specs.Meaning.{IsEdgeOf, IsLabelOf, IsStateOf, Means}
 use Rattle.omega_hoa_automaton.specs.declared.edge.Edge.{Edge}
 use Rattle.omega_hoa_automaton.specs.declared.state.State.{State}
@@ -175,6 +175,8 @@ module _ (mean : WrittenLabelsMean) (formulas : WrittenFormulasMean) (c : Circui
     acceptance = accepting;
     sets = counted;
     unnamed = means.name ∙ ap (first_said name_in) written.items;
+    no_tool = means.tool ∙ ap (first_said tool_in) written.items;
+    no_properties = means.properties ∙ ap (flat_map properties_in) written.items;
   }
 
   -- a state that is defined is one of those that are written

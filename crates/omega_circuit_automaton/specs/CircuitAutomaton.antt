@@ -60,6 +60,8 @@ pub record HasCircuitHeader (c : CircuitValue) (a : Description) : Type 0 where
   pub acceptance : a.acceptance ≡ buchi_formula 0
   pub sets : a.sets ≡ 0
   pub unnamed : a.name ≡ None
+  pub no_tool : a.tool ≡ None
+  pub no_properties : a.properties ≡ []
 
 -- its states are valuations of the latches, beginning with the resets and named by their values; an edge that can be
 -- taken with a round's inputs leads from the round's valuation to the one after it

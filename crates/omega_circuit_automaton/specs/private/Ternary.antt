@@ -22,14 +22,6 @@ known true = True
 abbrev pub ternary_at : List Ternary → ℕ → Ternary
 ternary_at values place = slice_index_or values place Unknown
 
--- each variable has in a round the value that is known
-abbrev pub IsSound : (ℕ → Bool) → List Ternary → Type 0
-IsSound round values = (variable : ℕ) → Matches (ternary_at values variable) (round variable)
-
--- what is known stays right in rounds with a property
-abbrev pub KeepsSound : ((ℕ → Bool) → Type 0) → (old new : List Ternary) → Type 0
-KeepsSound Holds old new = (round : ℕ → Bool) → Holds round → IsSound round old → IsSound round new
-
 -- the inputs of a round fit a cube
 abbrev pub AreInputs : List ℕ → List Ternary → (ℕ → Bool) → Type 0
 AreInputs inputs cube round =
