@@ -5,4 +5,4 @@ use Rattle.omega_lang_product.specs.declared.plain_edge.PlainEdge.{PlainEdge}
 use Rattle.omega_lang_product.proofs.tabled.Tabled.label_summary.Goals as goal
 
 pub returns : goal.returns
-returns c = subst (λ (edge : PlainEdge). IsSummaryOf edge.label c.self.inside.summary) c.self.view_is c.self.invariant
+returns c = subst (λ (edge : PlainEdge). IsSummaryOf edge.label c.self.inside.summary) c.self.view_is c.self.invariant.0
