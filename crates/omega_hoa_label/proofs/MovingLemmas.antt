@@ -43,3 +43,8 @@ depth-moved places (conjunction left right) =
 depth-moved places (disjunction left right) =
     ap (λ deep. max deep (label_depth (relabelled places right)) + 1) (depth-moved places left)
     ∙ ap (λ deep. max (label_depth left) deep + 1) (depth-moved places right)
+
+-- nodes that are moved
+pub moved-flat : (places : List ℕ) (tree : LabelTree) (all moved lent : List LabelNode) → all ≡ postfix tree
+    → moved ≡ map (moved_node places) all → lent ≡ moved → lent ≡ postfix (relabelled places tree)
+moved-flat places tree all moved lent flat are is = is ∙ (are ∙ (ap (map (moved_node places)) flat ∙ moved-postfix places tree))

@@ -6,10 +6,12 @@ ghost use Rattle.omega_text.specs.Cases.{IsMemory};
 ghost use Rattle.omega_hoa_label.specs.Bare.{is_alias, is_bare};
 ghost use Rattle.omega_hoa_label.specs.private.layout.Codes.{node_of};
 ghost use Rattle.omega_hoa_label.specs.private.layout.Compact.{fits_in_place, notation_in};
+ghost use Rattle.omega_hoa_label.specs.private.layout.Moving.{moved_node};
 ghost use Rattle.omega_hoa_label.specs.private.layout.Propositions.{proposition_below};
 
 use crate::codes::{MOST_IN_PLACE, ROOM, code, node_of_code, unpack};
 use crate::label::LabelNode;
+use crate::making::node_over_propositions;
 use crate::notation::{
     Notation, all_propositions_below, any_alias, count_bare, is_proposition_below, stays,
 };
@@ -236,6 +238,33 @@ impl Compact {
         }
     }
 
+    /// Returns the nodes in place over other propositions, whose numbers `places` gives. Returns none if they are not
+    /// kept in place, or one of them no longer fits there. Takes no memory.
+    pub(crate) fn over_propositions_in_place(&self, places: &[u32]) -> Option<Self>
+        ensures { IfSome result
+            (λ moved. moved.nodes ≡ map (moved_node places.now) self.now.nodes) }
+    {
+        match &self.held {
+            Held::Short {
+                count,
+                depth,
+                codes,
+            } => {
+                let codes = codes_over_propositions(&codes[..*count as usize], places)?;
+                let held = Held::Short {
+                    count: *count,
+                    depth: *depth,
+                    codes,
+                };
+                Some(Compact {
+                    held,
+                    alloc: self.alloc,
+                })
+            }
+            Held::Long(_) => None,
+        }
+    }
+
     /// Drops the nodes of parentheses, in the memory that it has.
     #[inline(always)]
     pub(crate) fn without_parentheses(self) -> Self
@@ -426,4 +455,18 @@ fn codes_of(nodes: &[LabelNode]) -> Option<[u8; 21]>
         codes[at] = code(*node)?;
     }
     Some(codes)
+}
+
+/// Returns the bytes of the nodes of `codes` over other propositions, whose numbers `places` gives, if each has one.
+#[inline(always)]
+fn codes_over_propositions(codes: &[u8], places: &[u32]) -> Option<[u8; 21]>
+    requires { length codes.now ≤ 21 }
+    ensures { IfSome result (λ moved. map node_of (take (length codes.now) moved)
+        ≡ map (moved_node places.now) (map node_of codes.now)) }
+{
+    let mut moved = [0; 21];
+    for (at, one) in codes.iter().enumerate() {
+        moved[at] = code(node_over_propositions(node_of_code(*one), places))?;
+    }
+    Some(moved)
 }

@@ -1,6 +1,6 @@
 //! Labels, held in little memory.
 
-ghost use Rattle.std.specs.Prelude.{◌≡◌, ◌≤◌, IfErr, IfOk};
+ghost use Rattle.std.specs.Prelude.{◌≡◌, ◌≤◌, IfErr, IfOk, IfSome};
 ghost use Rattle.omega_text.specs.Cases.{IsMemory};
 
 use crate::codes::ROOM;
@@ -60,6 +60,7 @@ impl Label {
     ghost use Rattle.omega_hoa_label.specs.Label.{label_depth, label_size};
     ghost use Rattle.omega_hoa_label.specs.Label.{LabelTree};
     ghost use Rattle.omega_hoa_label.specs.Postfix.{IsShallowInPostfix, postfix};
+    ghost use Rattle.omega_hoa_label.specs.Renumbering.{relabelled};
     ghost use Rattle.omega_hoa_label.specs.private.layout.Label.{IsLabelInPostfix, tree_of};
     ghost use Rattle.omega_hoa_expression.specs.Limits.{most_depth};
 
@@ -108,6 +109,15 @@ impl Label {
         ensures { result ≡ tree_of written.nodes }
     {
         Label { written }
+    }
+
+    /// Returns the label over other propositions, whose numbers `places` gives. Returns none if it is not kept in place,
+    /// or no longer fits there. Takes no memory.
+    pub(crate) fn over_propositions_in_place(&self, places: &[u32]) -> Option<Label>
+        ensures { IfSome result (λ label. label ≡ relabelled places.now self.now) }
+    {
+        let written = self.written.over_propositions_in_place(places)?;
+        Some(Label::of_written(written))
     }
 
     /// Returns its nodes, parts before their operators; those kept in place are decoded into `room`.

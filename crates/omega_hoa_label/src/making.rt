@@ -63,6 +63,9 @@ impl Label {
         ensures ok { IfOk result (λ label. label ≡ relabelled places.now self.now) }
         ensures err { IfErr result IsMemory }
     {
+        if let Some(moved) = self.over_propositions_in_place(places) {
+            return Ok(moved);
+        }
         let mut room = ROOM;
         let nodes = nodes_over_propositions(alloc, self.nodes(&mut room), places)?;
         Label::of_slice(alloc, nodes.as_slice())
@@ -80,13 +83,13 @@ fn nodes_over_propositions(
 {
     let mut moved = LabelNodes::new(alloc);
     for node in nodes {
-        moved.push(among(*node, places))?;
+        moved.push(node_over_propositions(*node, places))?;
     }
     Ok(moved)
 }
 
 /// Returns `node` over other propositions, whose numbers `places` gives.
-fn among(node: LabelNode, places: &[u32]) -> LabelNode
+pub(crate) fn node_over_propositions(node: LabelNode, places: &[u32]) -> LabelNode
     ensures { result ≡ moved_node places.now node }
 {
     match node {

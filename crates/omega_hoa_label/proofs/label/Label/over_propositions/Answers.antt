@@ -1,19 +1,10 @@
 -- The nodes are those of the label over the other propositions, which is as deep.
-use Rattle.std.proofs.Common.{◌≡◌, List, map, ap, arith, ◌∙◌, ℕ}
-use Rattle.omega_hoa_label.specs.Label.{LabelTree}
-use Rattle.omega_hoa_label.specs.Postfix.{postfix}
+use Rattle.std.proofs.Common.{◌≡◌, arith, ◌∙◌}
 use Rattle.omega_hoa_label.specs.Renumbering.{relabelled}
-use Rattle.omega_hoa_label.specs.declared.label.LabelNode.{LabelNode}
 use Rattle.omega_hoa_label.specs.private.layout.Label.{tree_of}
-use Rattle.omega_hoa_label.specs.private.layout.Moving.{moved_node}
-use Rattle.omega_hoa_label.proofs.MovingLemmas.{depth-moved, moved-postfix}
+use Rattle.omega_hoa_label.proofs.MovingLemmas.{depth-moved, moved-flat}
 use Rattle.omega_hoa_label.proofs.ShapeLemmas.{IsLabel-of, label_tree-is, value_then}
 use Rattle.omega_hoa_label.proofs.label.Label.over_propositions.Goals as goal
-
--- nodes that are moved
-moved-flat : (places : List ℕ) (tree : LabelTree) (all moved lent : List LabelNode) → all ≡ postfix tree
-    → moved ≡ map (moved_node places) all → lent ≡ moved → lent ≡ postfix (relabelled places tree)
-moved-flat places tree all moved lent flat are is = is ∙ (are ∙ (ap (map (moved_node places)) flat ∙ moved-postfix places tree))
 
 pub of_slice-requires : goal.of_slice-requires
 of_slice-requires c =
