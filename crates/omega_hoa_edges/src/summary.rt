@@ -4,6 +4,7 @@ ghost use Rattle.std.specs.Prelude.{◌≡◌, ◌<◌, ◌↔◌, IfErr, IfOk, 
 ghost use Rattle.omega_hoa_expression.specs.Limits.{most_depth};
 ghost use Rattle.omega_hoa_label.specs.Label.{LabelTree, conjunction, label_depth};
 ghost use Rattle.omega_hoa_label.specs.Shape.{FitsALabel};
+ghost use Rattle.omega_hoa_satisfiable.specs.Literals.{AreLiteralsOf};
 ghost use Rattle.omega_hoa_satisfiable.specs.Satisfiable.{IsSatisfiable};
 ghost use Rattle.omega_hoa_satisfiable.specs.Tables.{IsWideTable};
 ghost use Rattle.omega_hoa_edges.specs.Fitting.{IsUnjudged};
@@ -67,6 +68,14 @@ impl LabelSummary {
             table,
             wide,
         })
+    }
+
+    /// Returns the literals of a label of this summary, if it is known to be a conjunction of them.
+    pub fn literals(&self) -> Option<Literals>
+        ensures { (label : LabelTree) → IsSummaryOf label self.now
+            → IfSome result (AreLiteralsOf label) }
+    {
+        self.literals
     }
 
     /// Whether a label of this summary and one of `other` can be true together, if the summaries decide it.

@@ -8,6 +8,7 @@ pub mod Rows
 pub mod Made
 pub mod Reaching
 pub mod PairsOne
+pub mod Places
 pub mod Room
 pub mod Steps
 pub mod Meaning

@@ -68,7 +68,7 @@ put_last test (x ∷ ks) more k none is = go (test x) refl (λ rest. put_last te
         let rest : list_any test ks ≡ false = sym (ap (λ b. b || list_any test ks) e) ∙ none in
         ap (λ (n : ℕ). cond (not (test x)) (1 + n) 0) (others rest)
 
-same_as_itself : (pair : Pair) → same_pair pair pair ≡ true
+pub same_as_itself : (pair : Pair) → same_pair pair pair ≡ true
 same_as_itself pair = ap₂ ◌&&◌ (eq-eqb pair.0 pair.0 refl) (eq-eqb pair.1 pair.1 refl)
 
 -- the number of a pair that is inserted is its place, whatever is found later

@@ -5,7 +5,7 @@ ghost use Rattle.omega_text.specs.Cases.{never, or_memory, or_task};
 ghost use Rattle.omega_hoa_edges.specs.Limits.{most_states};
 ghost use Rattle.omega_lang_product.specs.PairGraph.{joints_at};
 ghost use Rattle.omega_lang_product.specs.Pairs.{first_leaving, second_leaving, start_state as first_listed};
-ghost use Rattle.omega_lang_product.specs.Pairs.{starts_between, starts_with, with_pairs};
+ghost use Rattle.omega_lang_product.specs.Pairs.{pair_number, starts_between, starts_with, with_pairs};
 ghost use Rattle.omega_lang_product.specs.private.Adding.{AddsAmong};
 ghost use Rattle.omega_lang_product.specs.private.Explored.{AreMade, IsExplored};
 ghost use Rattle.omega_lang_product.specs.private.Faults.{IsGraphFault};
@@ -17,7 +17,7 @@ use crate::adding::add_joints;
 use crate::explored::Explored;
 use crate::joint_edges::JointEdges;
 use crate::operands::Operands;
-use crate::pairs::{number_of, pair_at};
+use crate::pairs::pair_at;
 use crate::tables::Tables;
 use indexmap::IndexSet;
 use omega_hoa_automaton::Automaton;
@@ -54,7 +54,7 @@ pub(crate) fn explore(
         let pair = pair_at(&pairs, at);
         tables.reach(alloc, one, other, pair)?;
         let operands = Operands { one, other, tables };
-        expand(alloc, &operands, &mut pairs, &mut edges, pair)?;
+        expand(alloc, &operands, &mut pairs, &mut edges, pair, at as u32)?;
         if MOST_EDGES < edges.ends.len() {
             return Err(Refusal::Task(TaskFault::TooLarge));
         }
@@ -64,19 +64,20 @@ pub(crate) fn explore(
     Ok(Explored { pairs, edges, past })
 }
 
-/// Expands `pair`, which is among `pairs`: appends the edges that leave it, and adds the pairs that they lead to. The
-/// edges of both of its states are made.
+/// Expands `pair`, which is among `pairs` with the number `from`: appends the edges that leave it, and adds the pairs
+/// that they lead to. The edges of both of its states are made.
 fn expand(
     alloc: Global,
     operands: &Operands<'_>,
     pairs: &mut IndexSet<(u32, u32)>,
     edges: &mut JointEdges,
     pair: (u32, u32),
+    from: u32,
 ) -> Result<(), Refusal>
     requires tabled { AreTabled operands.now }
     requires made { HaveRows operands.now.tables.now pair }
-    requires few { length pairs.old.keys ≤ most_states }
     requires found { Contains pairs.old.keys pair }
+    requires numbered { from ≡ pair_number pairs.old.keys pair }
     ensures pairs { OnOk result
         (pairs.new.keys ≡ with_pairs pairs.old.keys (targets_in operands.now pair)) }
     ensures edges { OnOk result (AddsAmong pairs.new.keys
@@ -85,7 +86,6 @@ fn expand(
 {
     let firsts = operands.tables.firsts.row_of(pair.0);
     let seconds = operands.tables.seconds.row_of(pair.1);
-    let from = number_of(pairs, pair);
     let by_index = meet_by_index(operands, pair);
     add_joints(alloc, pairs, edges, from, &firsts, &seconds, by_index)
 }

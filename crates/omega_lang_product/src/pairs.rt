@@ -10,7 +10,8 @@ use indexmap::IndexSet;
 #[tactic(auto, using(crate::proofs::Formulas::same_default))]
 pub(crate) fn pair_at(found: &IndexSet<(u32, u32)>, number: usize) -> (u32, u32)
     requires { number < length found.now.keys }
-    ensures { result ≡ get_or found.now.keys number result }
+    ensures pair { result ≡ get_or found.now.keys number result }
+    ensures number { number ≡ pair_number found.now.keys result }
 {
     found.as_slice()[number]
 }

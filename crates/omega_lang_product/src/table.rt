@@ -1,4 +1,4 @@
-ghost use Rattle.std.specs.Prelude.{◌≡◌, ◌+◌, ◌<◌, ◌≤◌, None, get_or, length, replicate, IfErr, IfOk, IfSome};
+ghost use Rattle.std.specs.Prelude.{◌≡◌, ◌+◌, ◌<◌, ◌≤◌, None, get_or, length, position, replicate, IfErr, IfOk, IfSome};
 ghost use Rattle.std.specs.Prelude.{IsOkUnless, OnOk, ℕ, ◌∷◌, [], ◌++◌, false, nat_eq, true};
 ghost use Rattle.std.specs.List.{list_any};
 ghost use Rattle.omega_hoa_edges.specs.Fitting.{IsLarge};
@@ -85,7 +85,7 @@ impl Table {
             → IsLarge (HasUnfitEdge (plain_edges_at view automaton.now.defined number)) refusal) }
     {
         automaton.keeps_limits();
-        let Some(place) = self.numbers.get_index_of(&number) else {
+        let Some(place) = self.place_of(number) else {
             return Ok(());
         };
         if self.rows[place].is_some() {
@@ -117,7 +117,7 @@ impl Table {
         ensures { result ≡ true → AreByValuation self.now.places.items
             (plain_edges_at (view_in self.now) automaton.now.defined number) }
     {
-        match self.numbers.get_index_of(&number) {
+        match self.place_of(number) {
             Some(place) => {
                 let places = self.places.as_slice();
                 is_full(places.len(), &automaton.defined()[place])
@@ -132,7 +132,7 @@ impl Table {
         requires { HasRow self.now number }
         ensures { IsRowIn self.now number result }
     {
-        match self.numbers.get_index_of(&number) {
+        match self.place_of(number) {
             Some(place) => Row {
                 before: self.first_edge(place),
                 edges: self.row(place),
@@ -142,6 +142,20 @@ impl Table {
                 edges: &[],
             },
         }
+    }
+
+    /// Returns the place of the state with the number `number`, if there is such a state. Most automata define their
+    /// states in the order of their numbers, so that the place of the same number is looked at first.
+    #[tactic(auto, using(crate::proofs::Places::own_number))]
+    fn place_of(&self, number: u32) -> Option<usize>
+        ensures index { result ≡ position (nat_eq number) self.now.numbers.keys }
+        ensures within { IfSome result (λ place. place < length self.now.numbers.keys) }
+    {
+        let place = number as usize;
+        if place < self.numbers.len() && self.numbers.as_slice()[place] == number {
+            return Some(place);
+        }
+        self.numbers.get_index_of(&number)
     }
 
     /// Returns the number of the first edge of the state at `place`, 0 past the last.

@@ -53,8 +53,8 @@ impl Tabled {
         ensures edge { IfOk result (λ edge. edge ≡ plain_edge) }
         ensures memory { IsOkUnless result Refusal.Memory }
     {
-        let literals = literals_of(&plain_edge.label);
         let summary = LabelSummary::of(alloc, &plain_edge.label)?;
+        let literals = small_literals(&plain_edge.label, &summary);
         Ok(Tabled {
             plain_edge,
             literals,
@@ -128,12 +128,13 @@ impl Tabled {
     }
 }
 
-/// Returns the literals of `label`, if it is a small conjunction of them.
-fn literals_of(label: &Label) -> Option<Literals>
+/// Returns the literals of `label`, which has this `summary`, if it is a small conjunction of them.
+fn small_literals(label: &Label, summary: &LabelSummary) -> Option<Literals>
+    requires { IsSummaryOf label.now summary.now }
     ensures { IfSome result (AreLiteralsOf label.now) }
 {
     if label.size() > MOST_SMALL {
         return None;
     }
-    Literals::of(label)
+    summary.literals()
 }

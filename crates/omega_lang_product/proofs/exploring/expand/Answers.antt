@@ -37,7 +37,7 @@ returns-clause-edges c =
     let second = c.row_of-seconds.ensures (second_view one other) other.defined c.requires.tabled.seconds in
     let firsts = numbered_in c.row_of-firsts.result in
     let seconds = numbered_in c.row_of-seconds.result in
-    found_edges c.args.pairs.now.keys c.add_joints.new.pairs.keys (targets_between c.row_of-firsts.result.edges.now c.row_of-seconds.result.edges.now) c.args.pair c.requires.found c.number_of-from.result c.number_of-from.ensures
+    found_edges c.args.pairs.now.keys c.add_joints.new.pairs.keys (targets_between c.row_of-firsts.result.edges.now c.row_of-seconds.result.edges.now) c.args.pair c.requires.found c.args.from c.requires.numbered
     c.add_joints.result c.add_joints.ensures.pairs
     (λ all n. joints_between all n firsts seconds) (λ all. joints_at one other all c.args.pair)
     (λ all. ap₂ (joints_between all (pair_number all c.args.pair)) first.numbered second.numbered)

@@ -29,10 +29,10 @@ loop-at-preserved c =
     let count : c.len-in-loop-at-3.result ≡ length c.expand.new.edges.ends.items = omega (arith, c.len-in-loop-at-3.ensures) in
     let extended = extends_by c.loop-at.pairs.keys c.expand.new.pairs.keys (targets_of one other c.pair_at-pair.result) c.in_ok-expand.ensures.pairs in (
       found_more one other c.loop-at.pairs.keys c.expand.new.pairs.keys c.loop-at.edges c.expand.new.edges c.loop-at.past.items c.loop-at.at c.pair_at-pair.result c.loop-at.invariant.0
-          below c.pair_at-pair.ensures few c.in_ok-expand.ensures.pairs c.in_ok-expand.ensures.edges
+          below c.pair_at-pair.ensures.pair few c.in_ok-expand.ensures.pairs c.in_ok-expand.ensures.edges
           c.len-in-loop-at-3.result c.push.new.self.items count light c.in_ok-push.ensures.items,
       c.in_ok-reach.ensures.ok.tables,
-      reached_more one other c.loop-at.pairs.keys c.expand.new.pairs.keys c.loop-at.tables c.reach.new.self c.loop-at.at c.pair_at-pair.result extended below c.pair_at-pair.ensures
+      reached_more one other c.loop-at.pairs.keys c.expand.new.pairs.keys c.loop-at.tables c.reach.new.self c.loop-at.at c.pair_at-pair.result extended below c.pair_at-pair.ensures.pair
           c.loop-at.invariant.2 c.in_ok-reach.ensures.ok,
     )
 
@@ -47,7 +47,7 @@ returns-in_err-reach-clause-err c =
     passed_on c.from_residual-in_err-reach.result _ _ c.from_residual-in_err-reach.ensures.1
     (large_in_graph one other (HasUnfitAt one other c.pair_at-pair.result)
     (unfit_pair one other c.pair_at-pair.result (c.loop-at.invariant.0.way.reachable.each c.pair_at-pair.result
-    (listed_at {X = Pair} c.loop-at.pairs.keys c.loop-at.at c.pair_at-pair.result below c.pair_at-pair.ensures)))
+    (listed_at {X = Pair} c.loop-at.pairs.keys c.loop-at.at c.pair_at-pair.result below c.pair_at-pair.ensures.pair)))
     _ c.in_err-reach.ensures.err)
 
 pub returns-in_err-expand-clause-err : goal.returns-in_err-expand-clause-err
@@ -57,7 +57,7 @@ returns-in_err-expand-clause-err c =
     let below : c.loop-at.at < length c.loop-at.pairs.keys = omega (arith, c.loop-at-test.true, c.len.ensures.len) in
     passed_on c.from_residual-in_err-expand.result _ _ c.from_residual-in_err-expand.ensures.1
     (join_refused one other c.pair_at-pair.result (c.loop-at.invariant.0.way.reachable.each c.pair_at-pair.result
-    (listed_at {X = Pair} c.loop-at.pairs.keys c.loop-at.at c.pair_at-pair.result below c.pair_at-pair.ensures)) _ c.in_err-expand.ensures.err)
+    (listed_at {X = Pair} c.loop-at.pairs.keys c.loop-at.at c.pair_at-pair.result below c.pair_at-pair.ensures.pair)) _ c.in_err-expand.ensures.err)
 
 pub returns-then-len-gt-MOST_STATES-clause-err : goal.returns-then-len-gt-MOST_STATES-clause-err
 returns-then-len-gt-MOST_STATES-clause-err c =
@@ -75,7 +75,7 @@ returns-then-len-gt-MOST_EDGES-clause-err c =
     let few : length c.loop-at.pairs.keys ≤ most_states = omega (arith, c.if-len-gt-MOST_STATES.false, c.len-in-loop-at.ensures.len) in
     let many : most_edges < length c.expand.new.edges.ends.items = omega (arith, c.if-len-gt-MOST_EDGES.true, c.len-in-loop-at-2.ensures) in
     many_edges (many_now one other c.loop-at.pairs.keys c.expand.new.pairs.keys c.loop-at.edges c.expand.new.edges c.loop-at.past.items c.loop-at.at c.pair_at-pair.result c.loop-at.invariant.0
-    below c.pair_at-pair.ensures few c.in_ok-expand.ensures.pairs c.in_ok-expand.ensures.edges many)
+    below c.pair_at-pair.ensures.pair few c.in_ok-expand.ensures.pairs c.in_ok-expand.ensures.edges many)
 
 pub returns-clause-explored : goal.returns-clause-explored
 returns-clause-explored c =

@@ -15,13 +15,13 @@ use Rattle.omega_lang_product.proofs.labelling.edges_leaving.Goals as goal
 pub row_of-firsts-requires : goal.row_of-firsts-requires
 row_of-firsts-requires c =
     let pairs = c.args.explored.now.pairs.keys in
-    let here : c.pair_at-pair.result ≡ get_or pairs c.args.at (0, 0) = c.pair_at-pair.ensures ∙ same_default pairs c.args.at c.pair_at-pair.result (0, 0) c.requires.below in
+    let here : c.pair_at-pair.result ≡ get_or pairs c.args.at (0, 0) = c.pair_at-pair.ensures.pair ∙ same_default pairs c.args.at c.pair_at-pair.result (0, 0) c.requires.below in
     subst (λ (pair : Pair). HasRow c.args.operands.now.tables.now.firsts pair.0) (sym here) (c.requires.made c.args.at c.requires.below).first
 
 pub row_of-seconds-requires : goal.row_of-seconds-requires
 row_of-seconds-requires c =
     let pairs = c.args.explored.now.pairs.keys in
-    let here : c.pair_at-pair.result ≡ get_or pairs c.args.at (0, 0) = c.pair_at-pair.ensures ∙ same_default pairs c.args.at c.pair_at-pair.result (0, 0) c.requires.below in
+    let here : c.pair_at-pair.result ≡ get_or pairs c.args.at (0, 0) = c.pair_at-pair.ensures.pair ∙ same_default pairs c.args.at c.pair_at-pair.result (0, 0) c.requires.below in
     subst (λ (pair : Pair). HasRow c.args.operands.now.tables.now.seconds pair.1) (sym here) (c.requires.made c.args.at c.requires.below).second
 
 pub edges_between-requires : goal.edges_between-requires
@@ -30,7 +30,7 @@ edges_between-requires c =
     let other = c.args.operands.now.other.now in
     let explored = c.args.explored.now in
     let pairs = explored.pairs.keys in
-    let here : c.pair_at-pair.result ≡ get_or pairs c.args.at (0, 0) = c.pair_at-pair.ensures ∙ same_default pairs c.args.at c.pair_at-pair.result (0, 0) c.requires.below in
+    let here : c.pair_at-pair.result ≡ get_or pairs c.args.at (0, 0) = c.pair_at-pair.ensures.pair ∙ same_default pairs c.args.at c.pair_at-pair.result (0, 0) c.requires.below in
     let first = c.row_of-firsts.ensures (first_view one other) one.defined c.requires.tabled.firsts in
     let second = c.row_of-seconds.ensures (second_view one other) other.defined c.requires.tabled.seconds in (
       joints_at one other pairs (get_or pairs c.args.at (0, 0)),
@@ -44,7 +44,7 @@ returns-clause-ok c =
     let other = c.args.operands.now.other.now in
     let explored = c.args.explored.now in
     let pairs = explored.pairs.keys in
-    let here : c.pair_at-pair.result ≡ get_or pairs c.args.at (0, 0) = c.pair_at-pair.ensures ∙ same_default pairs c.args.at c.pair_at-pair.result (0, 0) c.requires.below in
+    let here : c.pair_at-pair.result ≡ get_or pairs c.args.at (0, 0) = c.pair_at-pair.ensures.pair ∙ same_default pairs c.args.at c.pair_at-pair.result (0, 0) c.requires.below in
     let first = c.row_of-firsts.ensures (first_view one other) one.defined c.requires.tabled.firsts in
     let second = c.row_of-seconds.ensures (second_view one other) other.defined c.requires.tabled.seconds in
     let are = joints_leaving one other pairs c.args.at c.requires.below explored.edges c.requires.explored.edges c.row_of-firsts.result c.row_of-seconds.result c.pair_at-pair.result here
@@ -60,7 +60,7 @@ returns-clause-err c =
     let other = c.args.operands.now.other.now in
     let explored = c.args.explored.now in
     let pairs = explored.pairs.keys in
-    let here : c.pair_at-pair.result ≡ get_or pairs c.args.at (0, 0) = c.pair_at-pair.ensures ∙ same_default pairs c.args.at c.pair_at-pair.result (0, 0) c.requires.below in
+    let here : c.pair_at-pair.result ≡ get_or pairs c.args.at (0, 0) = c.pair_at-pair.ensures.pair ∙ same_default pairs c.args.at c.pair_at-pair.result (0, 0) c.requires.below in
     let first = c.row_of-firsts.ensures (first_view one other) one.defined c.requires.tabled.firsts in
     let second = c.row_of-seconds.ensures (second_view one other) other.defined c.requires.tabled.seconds in
     let are = joints_leaving one other pairs c.args.at c.requires.below explored.edges c.requires.explored.edges c.row_of-firsts.result c.row_of-seconds.result c.pair_at-pair.result here
