@@ -7,10 +7,10 @@ ghost use Rattle.omega_lang_product.specs.Pairs.{targets_between, targets_with, 
 ghost use Rattle.omega_lang_product.specs.private.Adding.{AddsAmong, numbered_edge, numbered_in};
 ghost use Rattle.omega_lang_product.specs.private.Meeting.{HasUnmet, HasUnmetPartner, MeetByIndex};
 
+use crate::found_pairs::FoundPairs;
 use crate::joint_edges::JointEdges;
 use crate::numbers::number_after;
 use crate::row::{Row, RowEdge};
-use indexmap::IndexSet;
 use omega_graph::Edge;
 use omega_text::{Numbers, Refusal};
 use std::alloc::Global;
@@ -21,7 +21,7 @@ use std::alloc::Global;
 /// together, and with [TaskFault::TooLarge] if their labels are too deep or too large to be judged.
 pub(crate) fn add_joints(
     alloc: Global,
-    pairs: &mut IndexSet<(u32, u32)>,
+    pairs: &mut FoundPairs,
     edges: &mut JointEdges,
     from: u32,
     firsts: &Row<'_>,
@@ -29,9 +29,9 @@ pub(crate) fn add_joints(
     by_index: bool,
 ) -> Result<(), Refusal>
     requires { by_index ≡ true → MeetByIndex firsts.now.edges.now seconds.now.edges.now }
-    ensures pairs { OnOk result (pairs.new.keys ≡
-        with_pairs pairs.old.keys (targets_between firsts.now.edges.now seconds.now.edges.now)) }
-    ensures edges { OnOk result (AddsAmong pairs.new.keys
+    ensures pairs { OnOk result (pairs.new ≡
+        with_pairs pairs.old (targets_between firsts.now.edges.now seconds.now.edges.now)) }
+    ensures edges { OnOk result (AddsAmong pairs.new
         (λ all. joints_between all from (numbered_in firsts.now) (numbered_in seconds.now))
         edges.old edges.new) }
     ensures err { IfErr result
@@ -52,15 +52,15 @@ pub(crate) fn add_joints(
 /// Appends the joint edges of `first` and each edge of `seconds`, and adds the pairs that they lead to.
 fn add_joints_with(
     alloc: Global,
-    pairs: &mut IndexSet<(u32, u32)>,
+    pairs: &mut FoundPairs,
     edges: &mut JointEdges,
     from: u32,
     first: &RowEdge<'_>,
     seconds: &Row<'_>,
 ) -> Result<(), Refusal>
-    ensures pairs { OnOk result (pairs.new.keys ≡
-        with_pairs pairs.old.keys (targets_with first.now.edge.now seconds.now.edges.now)) }
-    ensures edges { OnOk result (AddsAmong pairs.new.keys
+    ensures pairs { OnOk result (pairs.new ≡
+        with_pairs pairs.old (targets_with first.now.edge.now seconds.now.edges.now)) }
+    ensures edges { OnOk result (AddsAmong pairs.new
         (λ all. joints_with all from (numbered_edge first.now) (numbered_in seconds.now))
         edges.old edges.new) }
     ensures err { IfErr result
@@ -80,22 +80,21 @@ fn add_joints_with(
 /// Appends the joint edge of `first` and `second`, and adds the pair that it leads to.
 fn add_joint(
     alloc: Global,
-    pairs: &mut IndexSet<(u32, u32)>,
+    pairs: &mut FoundPairs,
     edges: &mut JointEdges,
     from: u32,
     first: &RowEdge<'_>,
     second: &RowEdge<'_>,
 ) -> Result<(), Refusal>
-    ensures pairs { OnOk result (pairs.new.keys ≡
-        with_pairs pairs.old.keys ((first.now.edge.now.target, second.now.edge.now.target) ∷ [])) }
-    ensures edges { OnOk result (AddsAmong pairs.new.keys
+    ensures pairs { OnOk result (pairs.new ≡
+        with_pairs pairs.old ((first.now.edge.now.target, second.now.edge.now.target) ∷ [])) }
+    ensures edges { OnOk result (AddsAmong pairs.new
         (λ all. joint_of all from (numbered_edge first.now) (numbered_edge second.now) ∷ [])
         edges.old edges.new) }
     ensures memory { IsOkUnless result Refusal.Memory }
 {
     let marks = concatenation(alloc, first.edge.marks(), second.edge.marks())?;
-    let (place, _new) = pairs.insert_full(first.edge.joint_target(second.edge))?;
-    let to = number_after(0, place)?;
+    let to = pairs.insert(first.edge.joint_target(second.edge))?;
     edges.push(Edge { from, to }, marks, first.number, second.number)
 }
 

@@ -15,11 +15,10 @@ ghost use Rattle.omega_lang_product.specs.private.Operands.{HaveRows, targets_in
 
 use crate::adding::add_joints;
 use crate::explored::Explored;
+use crate::found_pairs::FoundPairs;
 use crate::joint_edges::JointEdges;
 use crate::operands::Operands;
-use crate::pairs::pair_at;
 use crate::tables::Tables;
-use indexmap::IndexSet;
 use omega_hoa_automaton::Automaton;
 use omega_hoa_edges::{MOST_EDGES, MOST_STATES};
 use omega_text::{Numbers, Refusal, TaskFault};
@@ -42,7 +41,7 @@ pub(crate) fn explore(
     ensures made { IfOk result (AreMade tables.new) }
     ensures err { IfErr result (or_task (IsGraphFault one.now other.now) (or_memory never)) }
 {
-    let mut pairs = IndexSet::new(alloc);
+    let mut pairs = FoundPairs::new(alloc, one.defined().len(), other.defined().len())?;
     let mut edges = JointEdges::new(alloc);
     let mut past = Vec::new(alloc);
     add_starts(&mut pairs, one.starts(), other.starts())?;
@@ -51,7 +50,7 @@ pub(crate) fn explore(
         if MOST_STATES < pairs.len() {
             return Err(Refusal::Task(TaskFault::TooLarge));
         }
-        let pair = pair_at(&pairs, at);
+        let pair = pairs.at(at);
         tables.reach(alloc, one, other, pair)?;
         let operands = Operands { one, other, tables };
         expand(alloc, &operands, &mut pairs, &mut edges, pair, at as u32)?;
@@ -61,7 +60,11 @@ pub(crate) fn explore(
         past.push(edges.ends.len())?;
         at += 1;
     }
-    Ok(Explored { pairs, edges, past })
+    Ok(Explored {
+        pairs: pairs.into_set(),
+        edges,
+        past,
+    })
 }
 
 /// Expands `pair`, which is among `pairs` with the number `from`: appends the edges that leave it, and adds the pairs
@@ -69,18 +72,18 @@ pub(crate) fn explore(
 fn expand(
     alloc: Global,
     operands: &Operands<'_>,
-    pairs: &mut IndexSet<(u32, u32)>,
+    pairs: &mut FoundPairs,
     edges: &mut JointEdges,
     pair: (u32, u32),
     from: u32,
 ) -> Result<(), Refusal>
     requires tabled { AreTabled operands.now }
     requires made { HaveRows operands.now.tables.now pair }
-    requires found { Contains pairs.old.keys pair }
-    requires numbered { from ≡ pair_number pairs.old.keys pair }
+    requires found { Contains pairs.old pair }
+    requires numbered { from ≡ pair_number pairs.old pair }
     ensures pairs { OnOk result
-        (pairs.new.keys ≡ with_pairs pairs.old.keys (targets_in operands.now pair)) }
-    ensures edges { OnOk result (AddsAmong pairs.new.keys
+        (pairs.new ≡ with_pairs pairs.old (targets_in operands.now pair)) }
+    ensures edges { OnOk result (AddsAmong pairs.new
         (λ all. joints_at operands.now.one.now operands.now.other.now all pair) edges.old edges.new) }
     ensures err { IfErr result (or_task (HasUnmetAt operands.now pair) (or_memory never)) }
 {
@@ -108,13 +111,9 @@ fn meet_by_index(operands: &Operands<'_>, pair: (u32, u32)) -> bool
 }
 
 /// Adds the pairs of a start of `starts` and one of `others`.
-fn add_starts(
-    found: &mut IndexSet<(u32, u32)>,
-    starts: &[Numbers],
-    others: &[Numbers],
-) -> Result<(), Refusal>
+fn add_starts(found: &mut FoundPairs, starts: &[Numbers], others: &[Numbers]) -> Result<(), Refusal>
     ensures ok { OnOk result
-        (found.new.keys ≡ with_pairs found.old.keys (starts_between starts.now others.now)) }
+        (found.new ≡ with_pairs found.old (starts_between starts.now others.now)) }
     ensures memory { IsOkUnless result Refusal.Memory }
 {
     for start in starts {
@@ -124,13 +123,9 @@ fn add_starts(
 }
 
 /// Adds the pairs of the state `first` and a start of `others`.
-fn add_starts_with(
-    found: &mut IndexSet<(u32, u32)>,
-    first: u32,
-    others: &[Numbers],
-) -> Result<(), Refusal>
+fn add_starts_with(found: &mut FoundPairs, first: u32, others: &[Numbers]) -> Result<(), Refusal>
     ensures ok { OnOk result
-        (found.new.keys ≡ with_pairs found.old.keys (starts_with first others.now)) }
+        (found.new ≡ with_pairs found.old (starts_with first others.now)) }
     ensures memory { IsOkUnless result Refusal.Memory }
 {
     for other in others {

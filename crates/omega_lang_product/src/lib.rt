@@ -16,6 +16,7 @@ mod conjoining;
 mod explored;
 mod exploring;
 mod forming;
+mod found_pairs;
 mod graph;
 mod graphing;
 mod header;

@@ -7,5 +7,5 @@ use Rattle.omega_lang_product.proofs.adding.add_joints.Given as goal
 
 abbrev pub invariant-loop-at : goal.invariant-loop-at
 invariant-loop-at l =
-    (l.pairs.keys ≡ with_pairs l.initial.pairs.keys (targets_between (take l.at l.firsts.edges.now) l.seconds.edges.now))
-    × AddsAmong l.pairs.keys (λ all. joints_between all l.from (take l.at (numbered_in l.firsts)) (numbered_in l.seconds)) l.initial.edges l.edges
+    (l.pairs ≡ with_pairs l.initial.pairs (targets_between (take l.at l.firsts.edges.now) l.seconds.edges.now))
+    × AddsAmong l.pairs (λ all. joints_between all l.from (take l.at (numbered_in l.firsts)) (numbered_in l.seconds)) l.initial.edges l.edges

@@ -29,29 +29,29 @@ loop-at-preserved c =
     elim c.if-branch.branch [
       | then-branch+in_ok-number+in_ok-add_joint w ↦
           let passes : p x ≡ true = sym c.in_ok-can_meet.ensures.ok ∙ w.if-branch.true in
-          let one = subst (λ n. AddsAmong w.add_joint.new.pairs.keys (λ all. f all (record { number = n; plain_edge = t }) ∷ []) c.loop-at.edges w.add_joint.new.edges)
+          let one = subst (λ n. AddsAmong w.add_joint.new.pairs (λ all. f all (record { number = n; plain_edge = t }) ∷ []) c.loop-at.edges w.add_joint.new.edges)
           w.in_ok-number.ensures.ok w.in_ok-add_joint.ensures.edges in
-          let grown = extends_by c.loop-at.pairs.keys w.add_joint.new.pairs.keys (target t ∷ []) w.in_ok-add_joint.ensures.pairs in
+          let grown = extends_by c.loop-at.pairs w.add_joint.new.pairs (target t ∷ []) w.in_ok-add_joint.ensures.pairs in
           rw (w.edges-is, w.pairs-is) (both_of
           (w.in_ok-add_joint.ensures.pairs
-          ∙ insert_kept {X = PlainEdge} ts at t c.loop-at-test.true same c.args.pairs.now.keys c.loop-at.pairs.keys (can_meet first.plain_edge) target passes c.loop-at.invariant.0)
-          (among_kept (numbered_from before ts) at x below here c.loop-at.pairs.keys c.args.edges.now c.loop-at.edges p f passes w.add_joint.new.pairs.keys w.add_joint.new.edges grown
+          ∙ insert_kept {X = PlainEdge} ts at t c.loop-at-test.true same c.args.pairs.now c.loop-at.pairs (can_meet first.plain_edge) target passes c.loop-at.invariant.0)
+          (among_kept (numbered_from before ts) at x below here c.loop-at.pairs c.args.edges.now c.loop-at.edges p f passes w.add_joint.new.pairs w.add_joint.new.edges grown
           c.loop-at.invariant.1 one))
       | else-branch w ↦
           let fails : p x ≡ false = sym c.in_ok-can_meet.ensures.ok ∙ w.if-branch.false in
           rw (w.edges-is, w.pairs-is) (both_of
-          (insert_dropped {X = PlainEdge} ts at t c.loop-at-test.true same c.args.pairs.now.keys c.loop-at.pairs.keys (can_meet first.plain_edge) target fails c.loop-at.invariant.0)
-          (among_dropped (numbered_from before ts) at x below here c.loop-at.pairs.keys c.args.edges.now c.loop-at.edges p f fails c.loop-at.invariant.1))
+          (insert_dropped {X = PlainEdge} ts at t c.loop-at-test.true same c.args.pairs.now c.loop-at.pairs (can_meet first.plain_edge) target fails c.loop-at.invariant.0)
+          (among_dropped (numbered_from before ts) at x below here c.loop-at.pairs c.args.edges.now c.loop-at.edges p f fails c.loop-at.invariant.1))
     ]
 
 pub returns-clause-edges : goal.returns-clause-edges
 returns-clause-edges c =
     let before = c.args.seconds.now.before in
     let ts : List PlainEdge = c.args.seconds.now.edges.now in
-    subst (λ (xs : List Numbered). AddsAmong c.loop-at.pairs.keys (λ all. joints_with all c.args.from (numbered_edge c.args.first.now) xs) c.args.edges.now c.loop-at.edges)
+    subst (λ (xs : List Numbered). AddsAmong c.loop-at.pairs (λ all. joints_with all c.args.from (numbered_edge c.args.first.now) xs) c.args.edges.now c.loop-at.edges)
     (numbered_all before ts c.loop-at.at c.loop-at-test.false) c.loop-at.invariant.1
 
 pub returns-clause-pairs : goal.returns-clause-pairs
 returns-clause-pairs c =
     c.loop-at.invariant.0
-    ∙ ap (λ (xs : List PlainEdge). with_pairs c.args.pairs.now.keys (targets_with c.args.first.now.edge.now xs)) (take_all c.loop-at.at c.args.seconds.now.edges.now c.loop-at-test.false)
+    ∙ ap (λ (xs : List PlainEdge). with_pairs c.args.pairs.now (targets_with c.args.first.now.edge.now xs)) (take_all c.loop-at.at c.args.seconds.now.edges.now c.loop-at-test.false)

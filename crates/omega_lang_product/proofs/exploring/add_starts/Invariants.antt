@@ -5,4 +5,4 @@ use Rattle.omega_lang_product.proofs.exploring.add_starts.Given as goal
 
 abbrev pub invariant-loop-start : goal.invariant-loop-start
 invariant-loop-start l =
-    l.found.keys ≡ with_pairs l.initial.found.keys (starts_between (take l.start-index l.starts) l.others)
+    l.found ≡ with_pairs l.initial.found (starts_between (take l.start-index l.starts) l.others)

@@ -6,7 +6,7 @@ use Rattle.omega_lang_product.proofs.exploring.add_starts_with.Goals as goal
 
 pub loop-other-preserved : goal.loop-other-preserved
 loop-other-preserved c =
-    c.in_ok-insert.ensures.keys
-    ∙ ap (λ (n : ℕ). insert_key same_pair c.loop-other.found.keys (c.args.first, n)) c.start_state.ensures
-    ∙ insert_mapped {X = List ℕ} c.args.others.now c.loop-other.other-index c.other-item.result c.loop-other-test.true c.other-item.is c.args.found.now.keys c.loop-other.found.keys
+    c.in_ok-insert.ensures.pairs
+    ∙ ap (λ (n : ℕ). insert_key same_pair c.loop-other.found (c.args.first, n)) c.start_state.ensures
+    ∙ insert_mapped {X = List ℕ} c.args.others.now c.loop-other.other-index c.other-item.result c.loop-other-test.true c.other-item.is c.args.found.now c.loop-other.found
     (λ (other : List ℕ). (c.args.first, start_state other)) c.loop-other.invariant

@@ -17,7 +17,7 @@ returns-clause-pairs c =
     let other = c.args.operands.now.other.now in
     let first = c.row_of-firsts.ensures (first_view one other) one.defined c.requires.tabled.firsts in
     let second = c.row_of-seconds.ensures (second_view one other) other.defined c.requires.tabled.seconds in
-    subst (λ (ts : List Pair). OnOk c.add_joints.result (c.add_joints.new.pairs.keys ≡ with_pairs c.args.pairs.now.keys ts))
+    subst (λ (ts : List Pair). OnOk c.add_joints.result (c.add_joints.new.pairs ≡ with_pairs c.args.pairs.now ts))
     (ap₂ targets_between first.edges second.edges) c.add_joints.ensures.pairs
 
 pub returns-clause-err : goal.returns-clause-err
@@ -37,7 +37,7 @@ returns-clause-edges c =
     let second = c.row_of-seconds.ensures (second_view one other) other.defined c.requires.tabled.seconds in
     let firsts = numbered_in c.row_of-firsts.result in
     let seconds = numbered_in c.row_of-seconds.result in
-    found_edges c.args.pairs.now.keys c.add_joints.new.pairs.keys (targets_between c.row_of-firsts.result.edges.now c.row_of-seconds.result.edges.now) c.args.pair c.requires.found c.args.from c.requires.numbered
+    found_edges c.args.pairs.now c.add_joints.new.pairs (targets_between c.row_of-firsts.result.edges.now c.row_of-seconds.result.edges.now) c.args.pair c.requires.found c.args.from c.requires.numbered
     c.add_joints.result c.add_joints.ensures.pairs
     (λ all n. joints_between all n firsts seconds) (λ all. joints_at one other all c.args.pair)
     (λ all. ap₂ (joints_between all (pair_number all c.args.pair)) first.numbered second.numbered)
