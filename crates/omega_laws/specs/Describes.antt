@@ -13,8 +13,8 @@ use Rattle.omega_text.specs.NamedWords.{NamedWord}
 use Rattle.omega_lang_word_laws.specs.NamedWords.{AcceptsNamed}
 
 -- the text can be cut into tokens that spell an automaton as it is written, and this one has its starts, propositions,
--- acceptance formula and states with their edges, on which alone it depends which words it accepts, and the headers
--- that the format leaves open
+-- acceptance formula, states with their edges, and the headers that the format leaves open. Which words it accepts
+-- depends on these alone
 pub record Describes (text : List ℕ) (automaton : Description) : Type 0 where
   pub raw : RawAutomaton
   pub written : IsRawText text raw

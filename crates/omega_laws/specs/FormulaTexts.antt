@@ -40,8 +40,8 @@ abbrev pub IsMissing : (IsOne : NamedWord → Type 0) → FormulaTree → NamedW
 IsMissing IsOne formula word = Satisfies formula word × (¬ IsOne word)
 
 -- what an answer of `equal -f` says of a formula and of these words: by that principle, that they are exactly those
--- that satisfy the formula; or without a premise words that do not satisfy it; or that each satisfies it, and such that
--- do and are missing
+-- that satisfy the formula. Or it says, without a premise, words that do not satisfy it. Or it says that each satisfies
+-- it, and words that do and are missing
 abbrev pub SaysTheSame : (explain : Bool) → (IsOne : NamedWord → Type 0) → FormulaTree
     → Exit → List ℕ → Type 0
 SaysTheSame explain IsOne formula Done output = (output ≡ codes "yes\n")
@@ -51,8 +51,8 @@ SaysTheSame explain IsOne formula No output =
     ⊎ (AllSatisfy IsOne formula
     × TellsWords (IsMissing IsOne formula) (codes "no\n") (codes "accepted by formula\n") explain output)
 
--- what an answer says of the text of a formula and of another text, which describes what has words: the one says a
--- formula, the other describes something, and the answer says so of each formula and each thing that they say
+-- what an answer says of the text of a formula and of another text, which describes what has words. The one says a
+-- formula, and the other describes something. The answer says so of each formula and each thing that they say
 pub record SaysOfTexts {A : Type 0} (IsDescribed : A → Type 0) (HasWord : A → NamedWord → Type 0)
     (Says : (NamedWord → Type 0) → FormulaTree → Exit → List ℕ → Type 0) (formula : List ℕ)
     (exit : Exit) (output : List ℕ) : Type 0 where

@@ -43,8 +43,8 @@ SaysEqual file input explain No output =
     ⊎ (AcceptsWordsOf file input × TellsOutside file input (codes "accepted by file\n") explain output)
 
 -- a text describes an automaton and accepts the words that fit the text of a word: without a premise each ultimately
--- periodic one, and all if each letter fixes each proposition of its automaton; by the limited principle of omniscience
--- all
+-- periodic one, and all if each letter fixes each proposition of its automaton. By the limited principle of
+-- omniscience it accepts all
 pub record AcceptsFitting (word text : List ℕ) : Type 0 where
   pub described : DescribesSome text
   pub read : (symbolic : SymbolicWord) × IsWordText word symbolic

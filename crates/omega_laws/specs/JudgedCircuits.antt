@@ -29,9 +29,9 @@ use Rattle.omega_laws.specs.Describes.{Describes}
 use Rattle.omega_laws.specs.RealizedFormulas.{SaysWhoWins, outputs_of}
 use Rattle.omega_laws.specs.SpecificationTexts.{SaysWhoWinsText}
 
--- what an answer says of the text of a specification and of that of a circuit: the one says something, the other says a
--- circuit, and whatever they say, the circuit has the sides that the specification says, and the answer is `yes`
--- exactly if each word of the circuit is one of the specification
+-- what an answer says of the text of a specification and of that of a circuit. The one says something, and the other a
+-- circuit. Whatever they say, the circuit has the sides that the specification says, and the answer is `yes` exactly if
+-- each word of the circuit is one of the specification
 pub record SaysOfCircuit {A : Type 0} (IsSaid : A → Type 0) (HasSides : A → CircuitValue → Type 0)
     (HasWord : A → NamedWord → Type 0) (input : List ℕ) (exit : Exit) (output : List ℕ) : Type 0 where
   pub said : (a : A) × IsSaid a

@@ -46,8 +46,8 @@ pub fn formula_circuits_are_judged()
     formula_circuit_verdicts_are_exact();
 }
 
-/// Shows what `realize -f --aiger` writes: where some strategy of the system realizes the formula, a circuit over its
-/// names each word of which satisfies it, and where some strategy of the environment beats it the line `unrealizable`.
+/// Shows what `realize -f --aiger` writes. If some strategy of the system realizes the formula, it is a circuit over its
+/// names, each word of which satisfies it. If some strategy of the environment beats it, it is the line `unrealizable`.
 /// It has the same premise.
 pub fn formula_circuits_are_exact()
     ensures { FormulaCircuitsAreExact }
@@ -62,9 +62,9 @@ pub fn formula_circuits_are_exact()
     written_formula_circuits_satisfy();
 }
 
-/// Shows what `realize --aiger` writes of a specification: where some strategy of the system realizes the automaton
-/// that the text describes, a circuit over its propositions each word of which it accepts, and where some strategy of
-/// the environment beats it the line `unrealizable`. It has the same premise.
+/// Shows what `realize --aiger` writes of a specification. If some strategy of the system realizes the automaton that
+/// the text describes, it is a circuit over its propositions, each word of which it accepts. If some strategy of the
+/// environment beats it, it is the line `unrealizable`. It has the same premise.
 pub fn winning_circuits_are_exact()
     ensures { WinningCircuitsAreExact }
 {
