@@ -12,8 +12,8 @@ use omega_ltl_text::laws::formulas_of_texts_are_one;
 
 /// Shows what `satisfies` answers of the texts of formulas and of one that describes an automaton: for each formula
 /// `yes` only if each word that the automaton accepts satisfies it. Otherwise there are words that are accepted and do
-/// not satisfy it. With an explanation the answer ends in these words. `yes` has the premise of the limited principle of
-/// omniscience, and `no` has none. Wherever there is an answer, each text says or describes something.
+/// not satisfy it. With an explanation the answer ends in these words. `yes` has the premise of the limited principle
+/// of omniscience, and `no` has none. Wherever there is an answer, each text says or describes something.
 pub fn satisfying_texts_satisfy()
     ensures { SatisfyingTextsSatisfy }
 {

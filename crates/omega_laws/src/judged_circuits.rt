@@ -46,9 +46,9 @@ pub fn formula_circuits_are_judged()
     formula_circuit_verdicts_are_exact();
 }
 
-/// Shows what `realize -f --aiger` writes. If some strategy of the system realizes the formula, it is a circuit over its
-/// names, each word of which satisfies it. If some strategy of the environment beats it, it is the line `unrealizable`.
-/// It has the same premise.
+/// Shows what `realize -f --aiger` writes. If some strategy of the system realizes the formula, it is a circuit over
+/// its names, each word of which satisfies it. If some strategy of the environment beats it, it is the line
+/// `unrealizable`. It has the same premise.
 pub fn formula_circuits_are_exact()
     ensures { FormulaCircuitsAreExact }
 {
