@@ -111,8 +111,8 @@ impl Label {
         Label { written }
     }
 
-    /// Returns the label over other propositions, whose numbers `places` gives. Returns none if it is not kept in place,
-    /// or no longer fits there. Takes no memory.
+    /// Returns the label over other propositions, whose numbers `places` gives. Returns none if it is not kept in
+    /// place, or no longer fits there. Takes no memory.
     pub(crate) fn over_propositions_in_place(&self, places: &[u32]) -> Option<Label>
         ensures { IfSome result (λ label. label ≡ relabelled places.now self.now) }
     {

@@ -16,8 +16,8 @@ const MOST_WIDTH: usize = 16;
 
 /// The pairs found so far, each once, in the order in which they were found. Contracts see the list of them.
 ///
-/// If the second automaton is small, as that of a formula, a table says by both states where a pair stands. It is looked
-/// up there, so that nothing rests on the table. Only a pair that does not stand there is hashed.
+/// If the second automaton is small, as that of a formula, a table says by both states where a pair stands. It is
+/// looked up there, so that nothing rests on the table. Only a pair that does not stand there is hashed.
 #[derive(Drop)]
 pub(crate) struct FoundPairs {
     pairs: IndexSet<(u32, u32)>,
