@@ -1,9 +1,9 @@
 """What `ltl --deterministic` writes of formulas, and what `equal -f` answers, against the evaluation of formulas on all
 short lasso words, as for *ltl*. Of 600 random formulas the automaton is deterministic, accepts exactly the words that
-satisfy the formula, and has the acceptance `parity min even`; `equal -f` says `yes` of it. Of each an edge is dropped,
-led elsewhere or given another mark: `no` is said if a short word tells the two apart, and after `no` each word that
-fits the line `word` does. So it is with random automata and formulas; what is not deterministic where it has to be is
-refused 56.
+satisfy the formula, and has the acceptance `parity min even`; `equal -f` says `yes` of it; with `--negated` the same is
+written as of the negated formula's text, with its name. Of each an edge is dropped, led elsewhere or given another
+mark: `no` is said if a short word tells the two apart, and after `no` each word that fits the line `word` does. So it
+is with random automata and formulas; what is not deterministic where it has to be is refused 56.
 
 Several formulas are answered as each alone. An automaton of another formula, and the automaton that `ltl` writes where
 it is deterministic, are asked about too.
@@ -118,7 +118,18 @@ def deterministic_fault(text: bytes, tree: Formula) -> Fault:
     if not is_deterministic(automaton) or apart:
         return f"deterministic: {is_deterministic(automaton)}, apart by {apart}: {shown(ran.stdout)}"
     return (header_fault(automaton, ran, tree) or equal_fault(ran.stdout, canonical(tree), True)
-            or fault_of(["ltl", "--deterministic"], canonical(tree), 0, ran.stdout))
+            or fault_of(["ltl", "--deterministic"], canonical(tree), 0, ran.stdout) or negation_fault(text, tree))
+
+
+def negation_fault(text: bytes, tree: Formula) -> Fault:
+    """What is wrong with the deterministic automaton that is written of the negation of a formula: it is that of the
+    negation's text, with the name that `--negated` alone writes."""
+    plain = run_of(["ltl", "--deterministic", "-f", canonical(("!", tree)).decode()], b"")
+    title = next(line for line in run_of(["ltl", "--negated"], text).stdout.split(b"\n") if line.startswith(b"name:"))
+    named = plain.stdout.replace(b"HOA: v1\n", b"HOA: v1\n%s\n" % title, 1)
+    ran = run_of(["ltl", "--negated", "--deterministic"], text)
+    is_same = (ran.returncode, ran.stdout, ran.stderr) == (plain.returncode, named, plain.stderr)
+    return None if is_same else f"of the negation {told(ran)}"
 
 
 def changed(text: bytes, drawn: random.Random) -> bytes:

@@ -18,7 +18,7 @@ import re
 import resource
 import shutil
 import subprocess
-from collections.abc import Iterator
+from collections.abc import Iterator, Sequence
 from functools import partial
 
 from automata import Automaton, Refused, Tree, bare, canonical as canonical_automaton, read_one
@@ -226,11 +226,21 @@ def limit_texts() -> Iterator[tuple[str, str, str | None]]:
     yield "a byte more", " " * MOST_TEXT + "a", "4 TooLong"
 
 
-def limit_fault(text: str, refusal: str | None) -> Fault:
+def negated_limit_texts() -> Iterator[tuple[str, str, str | None]]:
+    """Formulas at both sides of the limits of their negations, with the refusal of those that are past one."""
+    for depth in (255, 256):
+        refusal = "32 TooDeep" if depth > 255 else None
+        yield f"negation of {depth} deep", "!" * (depth - 1) + "a", refusal
+    for size in (4095, 4096):
+        refusal = "55 TooLarge" if size > 4095 else None
+        yield f"negation of {size} operators and names", "!" * (size - 4095) + f"({balanced(2048, 'a', '&')})", refusal
+
+
+def limit_fault(text: str, refusal: str | None, more: Sequence[str] = ()) -> Fault:
     """What is wrong with what is said of a text at a limit, or nothing."""
     if refusal:
-        return refusal_fault(["ltl"], text.encode(), refusal)
-    ran = run_of(["ltl"], text.encode())
+        return refusal_fault(["ltl", *more], text.encode(), refusal)
+    ran = run_of(["ltl", *more], text.encode())
     return None if ran.returncode == 0 and not ran.stderr and ran.stdout.startswith(b"HOA: v1\n") else told(ran)
 
 
@@ -500,6 +510,8 @@ def ltl_checks() -> Cases:
         yield label, partial(limit_fault, text, refusal)
         if len(text) < MOST_GIVEN:
             yield f"satisfies, {label}", partial(in_formula_fault, text.encode())
+    for label, text, refusal in negated_limit_texts():
+        yield label, partial(limit_fault, text, refusal, ["--negated", "--deterministic"])
     yield from task_limit_checks()
     yield from deep_checks()
     yield from satisfies_checks()

@@ -119,6 +119,7 @@ RUNS: list[Run] = [
       for text in ("a U b", 'GF"a b" & !(c <-> X c)')),
     *((["ltl", "-v"], text, None) for text in (b"a W b", b"a U", b"!" * 256 + b"a")),
     *((["ltl", "--deterministic", "-f", text], b"", None) for text in ("F G a", "a U b | G c", "(a")),
+    *((["ltl", "--negated", "--deterministic", "-f", text], b"", None) for text in ("G F a", "a U b", "(a")),
     *((["equal", *more, "-f", "G F a", "-f", other], OFTEN, None) for more in (NONE, ["-v", "--explain"])
       for other in ("F G a", "F a", "G F b", "a &")),
     (["ltl"], b"", b"F G a"),

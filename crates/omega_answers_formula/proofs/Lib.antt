@@ -3,4 +3,5 @@ pub mod Alone
 pub mod EqualFormula
 pub mod InTurn
 pub mod Items
+pub mod Naming
 pub mod Strings

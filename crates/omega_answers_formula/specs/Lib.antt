@@ -4,6 +4,7 @@ pub mod Canonical
 pub mod Title
 pub mod Ltl
 pub mod Deterministic
+pub mod DeterministicNegation
 pub mod Refused
 pub mod InTurn
 pub mod Satisfies

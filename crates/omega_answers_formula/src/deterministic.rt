@@ -1,7 +1,8 @@
-ghost use Rattle.std.specs.Prelude.{◌≡◌, IfErr, IfOk};
+ghost use Rattle.std.specs.Prelude.{IfErr, IfOk};
 ghost use Rattle.omega_text.specs.Cases.{or_memory};
-ghost use Rattle.omega_hoa_automaton.specs.Automaton.{Description};
 ghost use Rattle.omega_ltl_deterministic.specs.Candidate.{IsCandidate};
+ghost use Rattle.omega_ltl_equality.specs.Judging.{IsJudged};
+ghost use Rattle.omega_ltl_formula.specs.Table.{tree_of};
 ghost use Rattle.omega_answers_formula.specs.Deterministic.{IsDeterministicAnswer, IsDeterministicAutomatonOf};
 ghost use Rattle.omega_answers_formula.specs.Deterministic.{IsDeterministicRefusal, IsNotDetermined};
 
@@ -32,25 +33,44 @@ pub fn deterministic_text(alloc: Global, text: &[u8]) -> Result<Vec<u8>, Refusal
     deterministic_automaton_text(alloc, &formula)
 }
 
-/// Returns the canonical text of a deterministic automaton of `formula`. Fails as [deterministic_text] does after the
-/// formula is read.
+/// Returns the canonical text of a deterministic automaton of `formula`. Fails as [deterministic_automaton] does.
 fn deterministic_automaton_text(alloc: Global, formula: &Formula) -> Result<Vec<u8>, Refusal>
     ensures text { IfOk result (λ output. IsDeterministicAutomatonOf formula.now output.items) }
     ensures refused { IfErr result (or_memory (IsNotDetermined formula.now)) }
 {
-    let candidate = deterministic_candidate(alloc, formula)?;
-    judged_text(alloc, candidate, formula)
+    match deterministic_automaton(alloc, formula) {
+        Ok(automaton) => canonical(alloc, &automaton),
+        Err(refusal) => Err(refusal),
+    }
 }
 
-/// Returns the canonical text of `candidate`, if it is deterministic and accepts exactly the words that satisfy
-/// `formula`. Fails as `judged_automaton` does.
-fn judged_text(alloc: Global, candidate: Automaton, formula: &Formula) -> Result<Vec<u8>, Refusal>
+/// Returns a deterministic automaton of `formula`. Fails as [deterministic_text] does after the formula is read.
+pub(crate) fn deterministic_automaton(
+    alloc: Global,
+    formula: &Formula,
+) -> Result<Automaton, Refusal>
+    ensures judged { IfOk result (IsJudged (tree_of formula.now)) }
+    ensures form { IfOk result (IsCandidate formula.now.table.names) }
+    ensures refused { IfErr result (or_memory (IsNotDetermined formula.now)) }
+{
+    let candidate = deterministic_candidate(alloc, formula)?;
+    judged_candidate(alloc, candidate, formula)
+}
+
+/// Returns `candidate`, if it is deterministic and accepts exactly the words that satisfy `formula`. Fails as
+/// `judged_automaton` does.
+fn judged_candidate(
+    alloc: Global,
+    candidate: Automaton,
+    formula: &Formula,
+) -> Result<Automaton, Refusal>
     requires { IsCandidate formula.now.table.names candidate }
-    ensures text { IfOk result (λ output. IsDeterministicAutomatonOf formula.now output.items) }
+    ensures judged { IfOk result (IsJudged (tree_of formula.now)) }
+    ensures form { IfOk result (IsCandidate formula.now.table.names) }
     ensures refused { IfErr result (or_memory (IsNotDetermined formula.now)) }
 {
     match judged_automaton(alloc, candidate, formula) {
-        Ok(judged) => canonical(alloc, &judged),
+        Ok(judged) => Ok(judged),
         Err(refusal) => Err(refusal),
     }
 }

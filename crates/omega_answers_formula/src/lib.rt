@@ -6,6 +6,7 @@
 
 mod canonical;
 mod deterministic;
+mod deterministic_negation;
 mod equal;
 mod formula_answers;
 mod formula_question;
@@ -21,6 +22,7 @@ mod title;
 
 pub use canonical::canonical_formula;
 pub use deterministic::deterministic_text;
+pub use deterministic_negation::deterministic_negation_text;
 pub use equal::equal_each;
 pub use formula_answers::FormulaAnswers;
 pub use ltl::ltl_text;

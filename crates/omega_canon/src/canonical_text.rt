@@ -1,5 +1,5 @@
-ghost use Rattle.std.specs.Prelude.{◌≡◌, ◌++◌, IfOk, IsOkUnless, OnErr, OnOk};
-ghost use Rattle.omega_canon.specs.Canonical.{canonical_automaton as text_of};
+ghost use Rattle.std.specs.Prelude.{◌≡◌, ◌++◌, IfOk, IsOkUnless, OnErr, OnOk, Some, option_map};
+ghost use Rattle.omega_canon.specs.Canonical.{canonical_automaton as text_of, titled};
 
 use crate::body::write_body;
 use crate::header::write_header;
@@ -17,8 +17,33 @@ pub fn canonical(alloc: Global, automaton: &Automaton) -> Result<Vec<u8>, Refusa
     ensures text { IfOk result (λ text. text.items ≡ text_of automaton.now) }
     ensures memory { IsOkUnless result Refusal.Memory }
 {
+    canonical_titled(alloc, automaton, automaton.name())
+}
+
+/// Returns the canonical text of `automaton` with this name between its quotes, in place of that which it has.
+pub fn canonical_named(
+    alloc: Global,
+    automaton: &Automaton,
+    name: &[u8],
+) -> Result<Vec<u8>, Refusal>
+    ensures text { IfOk result (λ text. text.items ≡ text_of (titled (Some name.now) automaton.now)) }
+    ensures memory { IsOkUnless result Refusal.Memory }
+{
+    canonical_titled(alloc, automaton, Some(name))
+}
+
+/// Returns the canonical text of `automaton` with this name, or without one.
+fn canonical_titled(
+    alloc: Global,
+    automaton: &Automaton,
+    name: Option<&[u8]>,
+) -> Result<Vec<u8>, Refusal>
+    ensures text { IfOk result (λ text.
+        text.items ≡ text_of (titled (option_map (λ name. name.now) name.entry) automaton.now)) }
+    ensures memory { IsOkUnless result Refusal.Memory }
+{
     let mut text = Vec::with_capacity(alloc, 128)?;
-    write_header(automaton, &mut text)?;
+    write_header(automaton, name, &mut text)?;
     write_body(automaton.defined(), &mut text)?;
     Ok(text)
 }

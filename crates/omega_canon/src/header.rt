@@ -1,7 +1,8 @@
 //! The lines before the body.
 
-ghost use Rattle.std.specs.Prelude.{◌≡◌, ◌++◌, IsOkUnless, OnOk, decimal};
+ghost use Rattle.std.specs.Prelude.{◌≡◌, ◌++◌, IsOkUnless, OnOk, decimal, option_map};
 ghost use Rattle.std.specs.List.{flat_map};
+ghost use Rattle.omega_canon.specs.Canonical.{titled};
 ghost use Rattle.omega_canon.specs.HeaderText.{acc_name_line, acceptance_line, header_text, name_line};
 ghost use Rattle.omega_canon.specs.HeaderText.{parameter_part, properties_line, propositions_line};
 ghost use Rattle.omega_canon.specs.HeaderText.{start_line, states_line, tool_line, unknown_line, value_part};
@@ -16,14 +17,19 @@ use omega_hoa_acceptance::{Acc, Parameter, write_acc};
 use omega_hoa_automaton::{Automaton, HeaderValue};
 use omega_text::{ByteString, Refusal, write_number};
 
-/// Appends all lines before the body.
-pub(crate) fn write_header(automaton: &Automaton, out: &mut Vec<u8>) -> Result<(), Refusal>
-    ensures ok { OnOk result (out.new.items ≡ out.old.items ++ header_text automaton.now) }
+/// Appends all lines before the body: those of `automaton` with this name, or without one.
+pub(crate) fn write_header(
+    automaton: &Automaton,
+    name: Option<&[u8]>,
+    out: &mut Vec<u8>,
+) -> Result<(), Refusal>
+    ensures ok { OnOk result (out.new.items ≡ out.old.items
+        ++ header_text (titled (option_map (λ name. name.now) name.entry) automaton.now)) }
     ensures memory { IsOkUnless result Refusal.Memory }
 {
     out.extend_from_slice(b"HOA: v1\n")?;
     write_tool(automaton, out)?;
-    write_name(automaton, out)?;
+    write_name(name, out)?;
     write_states(automaton, out)?;
     write_starts(automaton, out)?;
     write_propositions(automaton, out)?;
@@ -49,11 +55,12 @@ fn write_tool(automaton: &Automaton, out: &mut Vec<u8>) -> Result<(), Refusal>
 }
 
 /// Appends the line `name:`, if there is a name.
-fn write_name(automaton: &Automaton, out: &mut Vec<u8>) -> Result<(), Refusal>
-    ensures ok { OnOk result (out.new.items ≡ out.old.items ++ name_line automaton.now.name) }
+fn write_name(name: Option<&[u8]>, out: &mut Vec<u8>) -> Result<(), Refusal>
+    ensures ok { OnOk result (out.new.items
+        ≡ out.old.items ++ name_line (option_map (λ name. name.now) name.entry)) }
     ensures memory { IsOkUnless result Refusal.Memory }
 {
-    if let Some(name) = automaton.name() {
+    if let Some(name) = name {
         out.extend_from_slice(b"name:")?;
         write_string(name, out)?;
         out.push(b'\n')?;

@@ -8,4 +8,4 @@ mod canonical_text;
 mod header;
 mod parts;
 
-pub use canonical_text::{canonical, write_canonical};
+pub use canonical_text::{canonical, canonical_named, write_canonical};

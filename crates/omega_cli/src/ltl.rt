@@ -57,8 +57,8 @@ then. `omega trim` drops the states from which nothing is accepted.
 --deterministic writes a deterministic automaton with a parity acceptance in its place. It is found by a
 search (Safra trees, as nested brackets; a product of the parts of the formula with Zielonka trees), and
 then judged as `omega equal -f` judges: only what accepts exactly the words that satisfy the formula is
-written. If it does not, which is a fault of the program, the refusal is 59 Unjudged. It has no name:, and a
-negation is written into the formula, since --negated goes without.
+written. If it does not, which is a fault of the program, the refusal is 59 Unjudged. It has no name:. With
+--negated too, it is that of the negated formula, and has its name:.
 
   $ omega ltl --deterministic -f 'F G a'
   HOA: v1
@@ -78,7 +78,9 @@ fault; as 32 TooDeep if it is nested over 256 deep, and else as 55 TooLarge if i
 names and constants, or over 64 different names. 55 TooLarge comes too if the automaton would have over
 1048576 states or 8388608 edges or labels over their limits, if a state or a part of the formula leads to
 over 4096 cases, or if over 64 parts promise something. With --deterministic it comes too if there are over
-16 names, or over 12 in one of the formula's parts, or if the search passes its limits.
+16 names, or over 12 in one of the formula's parts, or if the search passes its limits. With --negated
+besides, the ! counts as an operator: 32 TooDeep comes at a depth of 256, and 55 TooLarge at 4096 operators,
+names and constants.
 
 Exit status: 0 done, 1 the text or the task is refused, 2 the command line is wrong, 4 out of memory, 5
 a read or a write failed.";

@@ -87,7 +87,7 @@ module _ (subcommand : Subcommand) (options : Options) (has : HasOption subcomma
   no_one_text one.Complement asks = apart sub.Complement asks.0 refl
   no_one_text one.Trim asks = apart sub.Trim asks.0 refl
   no_one_text (one.Ltl negated) asks = apart sub.Ltl asks.0 refl
-  no_one_text one.LtlDeterministic asks = apart sub.Ltl asks.0 refl
+  no_one_text (one.LtlDeterministic negated) asks = apart sub.Ltl asks.0 refl
   no_one_text (one.Realize controller) asks = apart sub.Realize asks.0 refl
   no_one_text (one.RealizeByLifting controller) asks = apart sub.Realize asks.0 refl
   no_one_text (one.RealizeCircuit binary) asks = apart sub.Realize asks.0 refl
@@ -199,7 +199,7 @@ leaves subcommand options one.CircuitAutomaton asks = absurd asks
 leaves subcommand options one.Complement asks = absurd asks
 leaves subcommand options one.Trim asks = absurd asks
 leaves subcommand options (one.Ltl negated) asks = absurd asks
-leaves subcommand options one.LtlDeterministic asks = absurd asks
+leaves subcommand options (one.LtlDeterministic negated) asks = absurd asks
 leaves subcommand options (one.Realize controller) asks = absurd asks
 leaves subcommand options (one.RealizeByLifting controller) asks = absurd asks
 leaves subcommand options (one.RealizeCircuit binary) asks = absurd asks

@@ -64,9 +64,9 @@ IsUsed name.File options = text_of name.File options ≢ None
 -- `empty` makes no lifts. The progress of a stream is not reported. `verify` judges one thing, and only a game has
 -- parts, winners and names. Wrong winners are shown by no walk. One of a solution and a walk is drawn. The game of
 -- `realize` is written without being solved, and a circuit in place of an automaton and without lifting. `ltl` has one
--- formula, that of the option or that of a file, and makes its negation not deterministic. `realize` decides the
--- formula of the option, without lifting, or the automaton of a file. `equal` compares with a file or with formulas,
--- and `satisfies` is asked of a word, or of the automaton or the stream of a file
+-- formula, that of the option or that of a file. `realize` decides the formula of the option, without lifting, or the
+-- automaton of a file. `equal` compares with a file or with formulas, and `satisfies` is asked of a word, or of the
+-- automaton or the stream of a file
 abbrev pub IsApartFrom : OptionName → Subcommand → OptionName → Type 0
 IsApartFrom name.Search subcommand option =
     ((subcommand ≡ sub.Solve) × (option ≡ name.Player))
@@ -91,7 +91,6 @@ IsApartFrom name.Formula subcommand option = ((subcommand ≡ sub.Ltl) × (optio
     ⊎ ((subcommand ≡ sub.Verify) × ((option ≡ name.Specification) ⊎ (option ≡ name.Automaton)
     ⊎ (option ≡ name.Game) ⊎ (option ≡ name.From) ⊎ (option ≡ name.Winners) ⊎ (option ≡ name.Names)
     ⊎ (option ≡ name.Lenient)))
-IsApartFrom name.Negated subcommand option = (subcommand ≡ sub.Ltl) × (option ≡ name.Deterministic)
 IsApartFrom name.WordText subcommand option =
     (subcommand ≡ sub.Satisfies) × ((option ≡ name.File) ⊎ (option ≡ name.Stream))
 IsApartFrom name.Lift subcommand option = (subcommand ≡ sub.Realize) × (option ≡ name.AsGame)

@@ -64,8 +64,8 @@ AsksOneText subcommand options (one.Ltl negated) = (subcommand ≡ sub.Ltl)
     × GivesFlag (text_of name.Negated options) negated
     × GivesFlag (text_of name.Deterministic options) false
     × ((text_of name.Formula options ≡ None) ⊎ (text_of name.File options ≡ None))
-AsksOneText subcommand options one.LtlDeterministic = (subcommand ≡ sub.Ltl)
-    × GivesFlag (text_of name.Negated options) false
+AsksOneText subcommand options (one.LtlDeterministic negated) = (subcommand ≡ sub.Ltl)
+    × GivesFlag (text_of name.Negated options) negated
     × GivesFlag (text_of name.Deterministic options) true
     × ((text_of name.Formula options ≡ None) ⊎ (text_of name.File options ≡ None))
 AsksOneText subcommand options (one.Realize controller) =

@@ -80,8 +80,11 @@ pub enum OneText {
         /// Whether it accepts those that do not.
         negated: bool,
     },
-    /// Writes a deterministic parity automaton that accepts the words that satisfy a formula.
-    LtlDeterministic,
+    /// Writes a deterministic parity automaton that accepts the words that satisfy a formula, or those that do not.
+    LtlDeterministic {
+        /// Whether it accepts those that do not.
+        negated: bool,
+    },
     /// Says whether an automaton is realizable. Decided by a search whose answer is judged, and by lifting if the
     /// search finds nothing.
     Realize {

@@ -11,3 +11,4 @@ pub mod Keys
 pub mod Growing
 pub mod Putting
 pub mod Measuring
+pub mod Negating

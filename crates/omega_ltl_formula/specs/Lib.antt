@@ -5,5 +5,6 @@ pub mod Meaning
 pub mod Limits
 pub mod Table
 pub mod Building
+pub mod Negation
 pub mod Laws
 pub mod private

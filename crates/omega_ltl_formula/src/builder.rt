@@ -7,13 +7,11 @@ ghost use Rattle.omega_ltl_formula.specs.Table.{numbered, tree_at};
 ghost use Rattle.omega_ltl_formula.specs.private.Keys.{IsWith};
 
 use crate::formula::Formula;
-use crate::limits::{MOST_FORMULA_DEPTH, MOST_FORMULA_NAMES, MOST_FORMULA_NODES};
-use crate::measures::measure_of;
 use crate::names::{copy_of_names, number_of_name};
 use crate::node::FormulaNode;
 use crate::operators::{BinaryOperator, UnaryOperator};
 use indexmap::IndexSet;
-use omega_text::{AutomatonFault, Refusal, Seq, TaskFault};
+use omega_text::Refusal;
 use std::alloc::Global;
 use std::marker::Model;
 
@@ -114,23 +112,9 @@ impl FormulaBuilder {
         ensures ok { IfOk result (λ formula. formula ≡ numbered self.names self.nodes root) }
         ensures refused { IfErr result (IsFormulaRefusal (numbered self.names self.nodes root)) }
     {
-        let measure = measure_of(alloc, &self, root)?;
-        if measure.depth as usize > MOST_FORMULA_DEPTH {
-            return Err(Refusal::Automaton(AutomatonFault::TooDeep));
-        }
-        if measure.size as usize > MOST_FORMULA_NODES
-            || self.nodes.len() > MOST_FORMULA_NODES
-            || self.names.len() > MOST_FORMULA_NAMES
-        {
-            return Err(Refusal::Task(TaskFault::TooLarge));
-        }
         let names = copy_of_names(alloc, self.names.as_slice())?;
         let nodes = Vec::from_slice(alloc, self.nodes.as_slice())?;
-        Ok(Formula {
-            names: Seq::from_vec(names),
-            nodes: Seq::from_vec(nodes),
-            root,
-        })
+        Formula::of_table(alloc, names, nodes, root)
     }
 }
 

@@ -1,9 +1,13 @@
 //! A formula, and how it is kept.
 
-ghost use Rattle.std.specs.Prelude.{◌≡◌};
+ghost use Rattle.std.specs.Prelude.{◌≡◌, ◌<◌, IfErr, IfOk, length};
+ghost use Rattle.omega_ltl_formula.specs.Building.{IsFormulaRefusal};
 
+use crate::limits::{MOST_FORMULA_DEPTH, MOST_FORMULA_NAMES, MOST_FORMULA_NODES};
+use crate::measures::measure_of;
 use crate::node::FormulaNode;
-use omega_text::{ByteString, Seq};
+use omega_text::{AutomatonFault, ByteString, Refusal, Seq, TaskFault};
+use std::alloc::Global;
 use std::marker::Model;
 
 /// A formula of linear temporal logic: at most 256 deep, with at most 4,096 atoms and operators and at most 64 names.
@@ -38,7 +42,39 @@ impl Model for Formula {
 }
 
 impl Formula {
-    ghost use Rattle.omega_ltl_formula.specs.Table.{IsFormula};
+    ghost use Rattle.omega_ltl_formula.specs.Table.{IsFormula, IsTable, numbered};
+
+    /// Returns the formula that the node `root` of a table is. Takes linear time in the nodes.
+    ///
+    /// Fails with [AutomatonFault::TooDeep] if the formula is over 256 deep. Otherwise fails with
+    /// [TaskFault::TooLarge] if it has over 4,096 atoms and operators, or if there are over 4,096 nodes or 64 names.
+    pub(crate) fn of_table(
+        alloc: Global,
+        names: Vec<ByteString>,
+        nodes: Vec<FormulaNode>,
+        root: usize,
+    ) -> Result<Formula, Refusal>
+        requires table { IsTable (record { names = names.items; nodes = nodes.items }) }
+        requires rooted { root < length nodes.items }
+        ensures ok { IfOk result (λ formula. formula ≡ numbered names.items nodes.items root) }
+        ensures refused { IfErr result (IsFormulaRefusal (numbered names.items nodes.items root)) }
+    {
+        let measure = measure_of(alloc, nodes.as_slice(), root)?;
+        if measure.depth as usize > MOST_FORMULA_DEPTH {
+            return Err(Refusal::Automaton(AutomatonFault::TooDeep));
+        }
+        if measure.size as usize > MOST_FORMULA_NODES
+            || nodes.len() > MOST_FORMULA_NODES
+            || names.len() > MOST_FORMULA_NAMES
+        {
+            return Err(Refusal::Task(TaskFault::TooLarge));
+        }
+        Ok(Formula {
+            names: Seq::from_vec(names),
+            nodes: Seq::from_vec(nodes),
+            root,
+        })
+    }
 
     /// Returns the names of its propositions, each once, by their numbers.
     pub fn names(&self) -> &[ByteString]

@@ -10,6 +10,7 @@ mod laws;
 mod limits;
 mod measures;
 mod names;
+mod negation;
 mod node;
 mod operators;
 
@@ -21,6 +22,7 @@ pub use laws::{
 pub use limits::{
     MOST_FORMULA_DEPTH, MOST_FORMULA_NAMES, MOST_FORMULA_NODES, formula_limits_are_stated,
 };
+pub use negation::negation_of;
 pub use node::FormulaNode;
 pub use omega_text::{ByteString, Refusal};
 pub use operators::{BinaryOperator, UnaryOperator};

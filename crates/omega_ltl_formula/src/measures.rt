@@ -2,11 +2,10 @@
 
 ghost use Rattle.std.specs.Prelude.{◌≡◌, ◌<◌, ◌+◌, ℕ, IfOk, IsOkUnless, length};
 ghost use Rattle.omega_ltl_formula.specs.Limits.{most_formula_depth, most_formula_nodes};
-ghost use Rattle.omega_ltl_formula.specs.Table.{IsPlaced, tree_at};
-ghost use Rattle.omega_ltl_formula.specs.private.Measures.{AreMeasures, counted, measure_at, measure_over};
-ghost use Rattle.omega_ltl_formula.specs.private.Measures.{measured};
+ghost use Rattle.omega_ltl_formula.specs.Table.{IsPlaced};
+ghost use Rattle.omega_ltl_formula.specs.private.Measures.{AreMeasuresOf, HaveTable, IsMeasureOf};
+ghost use Rattle.omega_ltl_formula.specs.private.Measures.{counted, measure_at, measure_over};
 
-use crate::builder::FormulaBuilder;
 use crate::limits::{MOST_FORMULA_DEPTH, MOST_FORMULA_NODES};
 use crate::node::FormulaNode;
 use omega_text::Refusal;
@@ -19,27 +18,28 @@ pub(crate) struct Measure {
     pub(crate) size: u32,
 }
 
-/// Returns the measure of the node `root` of `table`. Takes linear time in the nodes.
+/// Returns the measure of the node `root` of a table with these `nodes`. Takes linear time in the nodes.
 pub(crate) fn measure_of(
     alloc: Global,
-    table: &FormulaBuilder,
+    nodes: &[FormulaNode],
     root: usize,
 ) -> Result<Measure, Refusal>
-    requires { root < length table.now.nodes }
-    ensures measure { IfOk result (λ measure. measure ≡ measured (tree_at table.now root)) }
+    requires table { HaveTable nodes.now }
+    requires rooted { root < length nodes.now }
+    ensures measure { IfOk result (IsMeasureOf nodes.now root) }
     ensures memory { IsOkUnless result Refusal.Memory }
 {
-    let measures = measures_of(alloc, table)?;
+    let measures = measures_of(alloc, nodes)?;
     Ok(measures[root])
 }
 
-/// Returns the measures of all nodes of `table`.
-fn measures_of(alloc: Global, table: &FormulaBuilder) -> Result<Vec<Measure>, Refusal>
+/// Returns the measures of all nodes of a table with these `nodes`.
+fn measures_of(alloc: Global, nodes: &[FormulaNode]) -> Result<Vec<Measure>, Refusal>
+    requires { HaveTable nodes.now }
     ensures each { IfOk result
-        (λ measures. AreMeasures table.now (length table.now.nodes) measures.items) }
+        (λ measures. AreMeasuresOf nodes.now (length nodes.now) measures.items) }
     ensures memory { IsOkUnless result Refusal.Memory }
 {
-    let nodes = table.nodes.as_slice();
     let mut measures = Vec::with_capacity(alloc, nodes.len())?;
     for node in nodes {
         let measure = measure_over(*node, measures.as_slice());

@@ -84,7 +84,7 @@ module _ {L : Type 0} (held : L → Option (List ℕ)) (failed : L → ℕ) (eve
   one_text_lines Complement made kept = no_lines kept
   one_text_lines Trim made kept = no_lines kept
   one_text_lines (Ltl negated) made kept = no_lines kept
-  one_text_lines LtlDeterministic made kept = no_lines kept
+  one_text_lines (LtlDeterministic negated) made kept = no_lines kept
   one_text_lines (Realize controller) made kept = no_lines kept
   one_text_lines RealizabilityGame made kept = no_lines kept
   one_text_lines DrawGame made kept = no_lines kept

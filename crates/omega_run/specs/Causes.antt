@@ -55,7 +55,7 @@ kind_of_one ShowCircuitJson = kind.Circuit
 kind_of_one (CanonCircuit binary) = kind.Circuit
 kind_of_one CircuitAutomaton = kind.Circuit
 kind_of_one (Ltl negated) = kind.Other
-kind_of_one LtlDeterministic = kind.Other
+kind_of_one (LtlDeterministic negated) = kind.Other
 kind_of_one other = kind.Automata
 
 -- what a command reads each of two texts as: an automaton, unless it is named here

@@ -32,6 +32,8 @@ use Rattle.omega_answers_empty.specs.declared.lines.Lines.{Lines}
 use Rattle.omega_answers_empty.specs.empty.Answer.{EndsEmpty, EndsEmptySearch, IsEmptyRefusal}
 use Rattle.omega_answers_empty.specs.empty.Answer.{IsEmptySearchRefusal}
 use Rattle.omega_answers_formula.specs.Deterministic.{IsDeterministicAnswer, IsDeterministicRefusal}
+use Rattle.omega_answers_formula.specs.DeterministicNegation.{IsDeterministicNegationAnswer}
+use Rattle.omega_answers_formula.specs.DeterministicNegation.{IsDeterministicNegationRefusal}
 use Rattle.omega_answers_formula.specs.Ltl.{IsLtlAnswer, IsLtlRefusal}
 use Rattle.omega_answers_game.specs.Canon.{IsCanonAnswer, IsCanonPartAnswer}
 use Rattle.omega_answers_game.specs.Check.{IsCheckAnswer}
@@ -95,8 +97,10 @@ AnswersOneText (EmptySearch word names status) budget text =
     Concludes (EndsEmptySearch text (lines_for word names) status) (IsEmptySearchRefusal text)
 AnswersOneText Complement budget text = Replies (IsComplementAnswer text) (IsComplementRefusal text)
 AnswersOneText (Ltl negated) budget text = Replies (IsLtlAnswer text negated) (IsLtlRefusal text negated)
-AnswersOneText LtlDeterministic budget text =
+AnswersOneText (LtlDeterministic false) budget text =
     Replies (IsDeterministicAnswer text) (IsDeterministicRefusal text)
+AnswersOneText (LtlDeterministic true) budget text =
+    Replies (IsDeterministicNegationAnswer text) (IsDeterministicNegationRefusal text)
 AnswersOneText Trim budget text = Replies (IsTrimAnswer text) (IsTrimAnswerRefusal text)
 AnswersOneText Game budget text = Replies (IsEmptinessGameAnswer text) (IsEmptinessGameRefusal text)
 AnswersOneText (Realize false) budget text =

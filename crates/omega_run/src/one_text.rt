@@ -21,7 +21,7 @@ use omega_answers_empty::{
     Lines, decide_emptiness, draw_automaton_text, draw_lasso_text, search_emptiness,
     write_emptiness_game,
 };
-use omega_answers_formula::{deterministic_text, ltl_text};
+use omega_answers_formula::{deterministic_negation_text, deterministic_text, ltl_text};
 use omega_answers_game::{
     Asked, Searcher, Searching, canon_game, canon_least, canon_part, check_game, draw_game_text,
     show_game, show_json, solve_game,
@@ -113,7 +113,12 @@ pub(crate) fn answer_one_text<L, T: Reporter<L>>(
         }
         OneText::Game => Ok((Exit::Done, write_emptiness_game(alloc, text)?)),
         OneText::Ltl { negated } => Ok((Exit::Done, ltl_text(alloc, text, negated)?)),
-        OneText::LtlDeterministic => Ok((Exit::Done, deterministic_text(alloc, text)?)),
+        OneText::LtlDeterministic { negated: false } => {
+            Ok((Exit::Done, deterministic_text(alloc, text)?))
+        }
+        OneText::LtlDeterministic { negated: true } => {
+            Ok((Exit::Done, deterministic_negation_text(alloc, text)?))
+        }
         OneText::Complement => Ok((Exit::Done, complement_text(alloc, text)?)),
         OneText::Trim => Ok((Exit::Done, trim_text(alloc, text)?)),
         OneText::Realize { controller: false } => decide_realizability(alloc, text),

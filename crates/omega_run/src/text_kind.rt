@@ -64,7 +64,7 @@ fn kind_of_one(command: OneText) -> TextKind
         | OneText::CanonCircuit { .. }
         | OneText::CircuitAutomaton => TextKind::Circuit,
         OneText::Ltl { .. } => TextKind::Other,
-        OneText::LtlDeterministic => TextKind::Other,
+        OneText::LtlDeterministic { .. } => TextKind::Other,
         _ => TextKind::Automata,
     }
 }

@@ -21,11 +21,10 @@ pub(crate) fn ltl_task<'a>(options: &Options<'_, 'a>) -> Result<Task, Mistake<'a
     if options.first_formula().is_some() && options.file.is_some() {
         return Err(Mistake::Conflict(OptionName::Formula, OptionName::File));
     }
-    if !deterministic {
-        return Ok(Task::of(Command::OneText(OneText::Ltl { negated })));
-    }
-    if negated {
-        return Err(Mistake::Conflict(OptionName::Negated, OptionName::Deterministic));
-    }
-    Ok(Task::of(Command::OneText(OneText::LtlDeterministic)))
+    let asked = if deterministic {
+        OneText::LtlDeterministic { negated }
+    } else {
+        OneText::Ltl { negated }
+    };
+    Ok(Task::of(Command::OneText(asked)))
 }

@@ -2,7 +2,7 @@
 use Rattle.std.specs.Prelude.{◌≡◌, ◌<◌, ◌+◌, ℕ, List, length, max, min, slice_index_or}
 use Rattle.omega_ltl_formula.specs.Formula.{FormulaTree, formula_depth, formula_size}
 use Rattle.omega_ltl_formula.specs.Limits.{most_formula_depth, most_formula_nodes}
-use Rattle.omega_ltl_formula.specs.Table.{FormulaTable, tree_at}
+use Rattle.omega_ltl_formula.specs.Table.{FormulaTable, IsTable, tree_at}
 use Rattle.omega_ltl_formula.specs.declared.measures.Measure.{Measure}
 use Rattle.omega_ltl_formula.specs.declared.node.FormulaNode.{FormulaNode}
 use Rattle.omega_ltl_formula.specs.declared.node.FormulaNode.TheVariants.{Binary, Constant, Name, Unary}
@@ -35,3 +35,19 @@ pub record AreMeasures (table : FormulaTable) (count : ℕ) (measures : List Mea
   pub long : length measures ≡ count
   pub each : (number : ℕ) → number < count
       → measure_at measures number ≡ measured (tree_at table number)
+
+-- some names and the nodes make a table
+abbrev pub HaveTable : List FormulaNode → Type 0
+HaveTable nodes = (names : List (List ℕ)) × IsTable (record { names = names; nodes = nodes })
+
+-- the measures are those of the first of some nodes, by whatever names these make a table
+abbrev pub AreMeasuresOf : List FormulaNode → ℕ → List Measure → Type 0
+AreMeasuresOf nodes count measures = (names : List (List ℕ))
+    → IsTable (record { names = names; nodes = nodes })
+    → AreMeasures (record { names = names; nodes = nodes }) count measures
+
+-- the measure is that of the node of this number, by whatever names the nodes make a table
+abbrev pub IsMeasureOf : List FormulaNode → ℕ → Measure → Type 0
+IsMeasureOf nodes number measure = (names : List (List ℕ))
+    → IsTable (record { names = names; nodes = nodes })
+    → measure ≡ measured (tree_at (record { names = names; nodes = nodes }) number)

@@ -1,5 +1,5 @@
 -- `write_header`: its lines one after the other.
-use Rattle.std.proofs.Common.{codes}
+use Rattle.std.proofs.Common.{codes, option_map}
 use Rattle.std.specs.List.{flat_map}
 use Rattle.omega_canon.specs.HeaderText.{acc_name_line, acceptance_line, name_line, properties_line, propositions_line, start_line, states_line, tool_line, unknown_line}
 use Rattle.omega_canon.proofs.Lines.{following}
@@ -9,7 +9,7 @@ pub returns-clause-ok : goal.returns-clause-ok
 returns-clause-ok c =
     following c.args.out.now.items (codes "HOA: v1\n") _ c.in_ok-extend_from_slice.ensures.items
     (following c.extend_from_slice.new.self.items (tool_line c.args.automaton.now.tool) _ c.in_ok-write_tool.ensures.ok
-    (following c.write_tool.new.out.items (name_line c.args.automaton.now.name) _ c.in_ok-write_name.ensures.ok
+    (following c.write_tool.new.out.items (name_line (option_map (λ name. name.now) c.args.name)) _ c.in_ok-write_name.ensures.ok
     (following c.write_name.new.out.items (states_line c.args.automaton.now.states) _ c.in_ok-write_states.ensures.ok
     (following c.write_states.new.out.items (flat_map start_line c.args.automaton.now.starts) _ c.in_ok-write_starts.ensures.ok
     (following c.write_starts.new.out.items (propositions_line c.args.automaton.now.propositions) _ c.in_ok-write_propositions.ensures.ok
