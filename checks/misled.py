@@ -47,10 +47,10 @@ def mislead(tree: str) -> str | None:
         return f"{SEARCH} is of another form"
     names = ", ".join(sorted({*uses[1].split(", "), "Seq"}))
     search = search.replace(FOUND, CHANGED).replace(uses[0], f"use omega_text::{{{names}}};")
-    write(search + text_of(HERE, "search.rt"), tree, SEARCH)
+    write(search + text_of(HERE, "search.rt.in"), tree, SEARCH)
     root = text_of(tree, ANSWERS, "src", "lib.rt")
     write(f"{root}\n#[cfg(test)]\nmod misled;\n", tree, ANSWERS, "src", "lib.rt")
-    shutil.copy(os.path.join(HERE, "answers.rt"), os.path.join(tree, ANSWERS, "src", "misled.rt"))
+    shutil.copy(os.path.join(HERE, "answers.rt.in"), os.path.join(tree, ANSWERS, "src", "misled.rt"))
     return None
 
 

@@ -1,5 +1,5 @@
-//! The gates that are left to evaluate in states: those that depend on inputs, and on which an output or a next value of
-//! a latch depends. Which they are is no matter of what is proved: without one, more is unknown.
+//! The gates that are left to evaluate in states: those that depend on inputs, and on which an output or a next value
+//! of a latch depends. Which they are is no matter of what is proved: without one, more is unknown.
 
 use crate::known::{Known, known_of};
 use omega_circuit::Circuit;
@@ -31,8 +31,8 @@ impl Demand {
         Ok(Demand { used, open })
     }
 
-    /// Finds the gates that are left in the states of these bits, if this is known of the variables and `order` has each
-    /// gate after those that it uses. Takes linear time in the circuit.
+    /// Finds the gates that are left in the states of these bits, if this is known of the variables and `order` has
+    /// each gate after those that it uses. Takes linear time in the circuit.
     pub(crate) fn find(
         &mut self,
         circuit: &Circuit,

@@ -64,9 +64,11 @@ fn known_ends(
     table: &Table,
     lane: Lane<'_>,
 ) -> Result<Option<Ends>, AllocError>
-    ensures outputs { IfOk result (λ found. IfSome found (λ ends. (round : ℕ → Bool) → IsSound lane.entry.bit round lane.entry.known.now table.now.entries.items
+    ensures outputs { IfOk result (λ found. IfSome found (λ ends. (round : ℕ → Bool)
+        → IsSound lane.entry.bit round lane.entry.known.now table.now.entries.items
         → ends.outputs.items ≡ map (λ literal. literal_value round literal) circuit.now.outputs)) }
-    ensures nexts { IfOk result (λ found. IfSome found (λ ends. (round : ℕ → Bool) → IsSound lane.entry.bit round lane.entry.known.now table.now.entries.items
+    ensures nexts { IfOk result (λ found. IfSome found (λ ends. (round : ℕ → Bool)
+        → IsSound lane.entry.bit round lane.entry.known.now table.now.entries.items
         → ends.nexts.items ≡ next_values circuit.now.latches round)) }
     ensures outputs_long { IfOk result (λ found. IfSome found
         (λ ends. length ends.outputs.items ≡ length circuit.now.outputs)) }
@@ -90,7 +92,8 @@ fn known_outputs(
     lane: Lane<'_>,
 ) -> Result<Option<Vec<bool>>, AllocError>
     ensures values { IfOk result (λ found. IfSome found
-        (λ values. (round : ℕ → Bool) → IsSound lane.entry.bit round lane.entry.known.now table.now.entries.items
+        (λ values. (round : ℕ → Bool)
+        → IsSound lane.entry.bit round lane.entry.known.now table.now.entries.items
         → values.items ≡ map (λ literal. literal_value round literal) literals.now)) }
     ensures long { IfOk result (λ found. IfSome found (λ values. length values.items ≡ length literals.now)) }
 {
@@ -112,7 +115,8 @@ fn known_nexts(
     lane: Lane<'_>,
 ) -> Result<Option<Vec<bool>>, AllocError>
     ensures values { IfOk result (λ found. IfSome found
-        (λ values. (round : ℕ → Bool) → IsSound lane.entry.bit round lane.entry.known.now table.now.entries.items
+        (λ values. (round : ℕ → Bool)
+        → IsSound lane.entry.bit round lane.entry.known.now table.now.entries.items
         → values.items ≡ next_values latches.now round)) }
     ensures long { IfOk result (λ found. IfSome found (λ values. length values.items ≡ length latches.now)) }
 {
@@ -128,7 +132,8 @@ fn known_nexts(
 
 /// Returns the value of a literal, or `None` if it is unknown.
 fn known_value(table: &Table, lane: Lane<'_>, literal: u32) -> Option<bool>
-    ensures { IfSome result (λ value. (round : ℕ → Bool) → IsSound lane.entry.bit round lane.entry.known.now table.now.entries.items
+    ensures { IfSome result (λ value. (round : ℕ → Bool)
+        → IsSound lane.entry.bit round lane.entry.known.now table.now.entries.items
         → literal_value round literal ≡ value) }
 {
     match table.value_of(lane, literal) {

@@ -57,7 +57,8 @@ impl Evaluator {
         cube: &[Ternary],
     ) -> Result<(), AllocError>
         ensures { OnOk result ((round : ℕ → Bool) → AreGates circuit.now.gates round
-            → AreInputs circuit.now.inputs cube.now round → IsSoundIn lane.entry.bit round lane.entry.known.now
+            → AreInputs circuit.now.inputs cube.now round
+            → IsSoundIn lane.entry.bit round lane.entry.known.now
             → AreHeld round self.new.table.entries.items) }
     {
         circuit.is_circuit();
@@ -155,7 +156,8 @@ impl Table {
 
     /// Returns what is known of a literal.
     pub(crate) fn value_of(&self, lane: Lane<'_>, literal: u32) -> Ternary
-        ensures { (round : ℕ → Bool) → IsSound lane.entry.bit round lane.entry.known.now self.now.entries.items
+        ensures { (round : ℕ → Bool)
+            → IsSound lane.entry.bit round lane.entry.known.now self.now.entries.items
             → Matches result (literal_value round literal) }
     {
         let value = self.value_in(lane, literal / 2);
@@ -164,7 +166,8 @@ impl Table {
 
     /// Returns what is known of a variable.
     fn value_in(&self, lane: Lane<'_>, variable: u32) -> Ternary
-        ensures { (round : ℕ → Bool) → IsSound lane.entry.bit round lane.entry.known.now self.now.entries.items
+        ensures { (round : ℕ → Bool)
+            → IsSound lane.entry.bit round lane.entry.known.now self.now.entries.items
             → Matches result (round variable) }
     {
         match lane.value_at(variable) {

@@ -82,7 +82,8 @@ impl Table {
 
     /// Returns what is known of a variable.
     pub(crate) fn value_at(&self, variable: u32) -> Ternary
-        ensures { (round : ℕ → Bool) → AreHeld round self.now.entries.items → Matches result (round variable) }
+        ensures { (round : ℕ → Bool) → AreHeld round self.now.entries.items
+            → Matches result (round variable) }
     {
         let place = self.places.get(variable as usize).copied().unwrap_or(0);
         match self.entries.get(place) {

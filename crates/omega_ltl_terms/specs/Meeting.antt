@@ -26,11 +26,13 @@ pub record IsWaiting (edge : Term) (d set : ℕ) (waiting : Term) : Type 0 where
 
 -- an edge meets a demand beside what another edge fixes: that stays if it meets the demand. Else one way is taken, or,
 -- of a strong demand, the goal is met, or the demand waits
-pub data IsMetBeside (shapes : List Shape) (strongs : List ℕ) (edge : Term) (d : ℕ) (met : Term) : Type 0 where
+pub data IsMetBeside (shapes : List Shape) (strongs : List ℕ) (edge : Term) (d : ℕ) (met : Term)
+    : Type 0 where
   met_stays : Meets shapes strongs d edge → met ≡ edge → IsMetBeside shapes strongs edge d met
-  met_weak : (IsStrong shapes d → ⊥) → IsBeside shapes edge (Same d) met → IsMetBeside shapes strongs edge d met
-  met_goal : (goal keep : Combination) → shape_at shapes d ≡ Fix goal keep true → IsBeside shapes edge goal met
+  met_weak : (IsStrong shapes d → ⊥) → IsBeside shapes edge (Same d) met
       → IsMetBeside shapes strongs edge d met
+  met_goal : (goal keep : Combination) → shape_at shapes d ≡ Fix goal keep true
+      → IsBeside shapes edge goal met → IsMetBeside shapes strongs edge d met
   met_waits : (goal keep : Combination) (set : ℕ) (waiting : Term) → shape_at shapes d ≡ Fix goal keep true
       → IsSetOf strongs set d → IsWaiting edge d set waiting → IsBeside shapes waiting keep met
       → IsMetBeside shapes strongs edge d met

@@ -39,12 +39,14 @@ pub data IsBeside (shapes : List Shape) : Term → Combination → Term → Type
   beside_constant : (with : Term) → IsBeside shapes with (Constant true) with
   beside_literal : (with one both : Term) (name : ℕ) (negated : Bool) → IsLiteralTerm name negated one
       → IsJoined with one both → IsBeside shapes with (Literal name negated) both
-  beside_same : (with way both : Term) (d : ℕ) (side : Term × Combination) → Contains (sides d (shape_at shapes d)) side
-      → IsBeside shapes side.0 side.1 way → IsJoined with way both → IsBeside shapes with (Same d) both
+  beside_same : (with way both : Term) (d : ℕ) (side : Term × Combination)
+      → Contains (sides d (shape_at shapes d)) side → IsBeside shapes side.0 side.1 way → IsJoined with way both → IsBeside shapes with (Same d) both
   beside_both : (with middle both : Term) (d e : ℕ) → IsBeside shapes with (Same d) middle
       → IsBeside shapes middle (Same e) both → IsBeside shapes with (Both d e) both
-  beside_left : (with both : Term) (d e : ℕ) → IsBeside shapes with (Same d) both → IsBeside shapes with (Either d e) both
-  beside_right : (with both : Term) (d e : ℕ) → IsBeside shapes with (Same e) both → IsBeside shapes with (Either d e) both
+  beside_left : (with both : Term) (d e : ℕ) → IsBeside shapes with (Same d) both
+      → IsBeside shapes with (Either d e) both
+  beside_right : (with both : Term) (d e : ℕ) → IsBeside shapes with (Same e) both
+      → IsBeside shapes with (Either d e) both
   beside_first : (with both : Term) (c d e f : ℕ) → IsBeside shapes with (Both c d) both
       → IsBeside shapes with (Cases c d e f) both
   beside_second : (with both : Term) (c d e f : ℕ) → IsBeside shapes with (Both e f) both

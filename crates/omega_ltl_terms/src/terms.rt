@@ -25,7 +25,8 @@ pub(crate) fn terms_of_all(alloc: Global, shapes: &[Shape]) -> Result<Seq<Seq<Te
     requires few { length shapes.now ≤ 8192 }
     ensures count { IfOk result (λ all. length all ≡ length shapes.now) }
     ensures terms { IfOk result (AreTerms shapes.now) }
-    ensures refused { IfErr result (IsLargeBy ((d : ℕ) × (d < length shapes.now) × HasManyWays shapes.now d)) }
+    ensures refused { IfErr result
+        (IsLargeBy ((d : ℕ) × (d < length shapes.now) × HasManyWays shapes.now d)) }
 {
     let mut all = Vec::new(alloc);
     for d in 0..shapes.len() as u32 {

@@ -29,7 +29,8 @@ IsSoundIn bit round known = (variable : ℕ) → Allows (known_at known variable
 
 -- what is known in the state of a bit stays right in rounds with a property
 abbrev pub KeepsSoundIn : ℕ → ((ℕ → Bool) → Type 0) → (old new : List Known) → Type 0
-KeepsSoundIn bit Holds old new = (round : ℕ → Bool) → Holds round → IsSoundIn bit round old → IsSoundIn bit round new
+KeepsSoundIn bit Holds old new =
+    (round : ℕ → Bool) → Holds round → IsSoundIn bit round old → IsSoundIn bit round new
 
 -- what is known in the state of a bit is right in all rounds with these latches
 abbrev pub IsLaneOf : CircuitValue → List Bool → ℕ → List Known → Type 0

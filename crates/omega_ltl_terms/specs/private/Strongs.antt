@@ -14,7 +14,8 @@ pub record AreStrongsBelow (shapes : List Shape) (count : ℕ) (strongs : List �
   pub low : (set : ℕ) → set < length strongs → slice_index strongs set < count
 
 -- they are marked, and a marked one below the number lacks a set only if as many have one as may
-pub record AreCollected (shapes : List Shape) (marked : List Bool) (count : ℕ) (strongs : List ℕ) : Type 0 where
+pub record AreCollected (shapes : List Shape) (marked : List Bool) (count : ℕ) (strongs : List ℕ)
+    : Type 0 where
   pub below : AreStrongsBelow shapes count strongs
   pub marked_are : (set : ℕ) → set < length strongs → IsMarked marked (slice_index strongs set)
   pub enough : (d : ℕ) → d < count → IsMarked marked d → LacksSet shapes strongs d

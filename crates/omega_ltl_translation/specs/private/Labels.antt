@@ -17,7 +17,8 @@ IsTrueCube letter cube =
 
 -- a label as it is written, whose top operator binds at least so tightly, with at most so many nodes and so deep, and
 -- which is true at such letters
-pub record IsLabelAt (rank size depth : ℕ) (Holds : (ℕ → Bool) → Type 0) (written : RawLabelTree) : Type 0 where
+pub record IsLabelAt (rank size depth : ℕ) (Holds : (ℕ → Bool) → Type 0) (written : RawLabelTree)
+    : Type 0 where
   pub tree : LabelTree
   pub is : written ≡ label_written tree
   pub binds : rank ≤ (label_text tree).rank
