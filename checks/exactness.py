@@ -28,6 +28,8 @@ from words import NoWord, admitted, read_word
 EXCESS, MISSING = b"accepted by automaton\n", b"accepted by formula\n"
 # An edge of an automaton with one mark on each edge: its label, its target and its mark.
 EDGE = re.compile(rb"^(\[[^]]*\]) (\d+) \{(\d+)\}$", re.MULTILINE)
+# A line `name:`, which may have line feeds between its quotes.
+TITLE = re.compile(rb'^name: "(?:[^"\\]|\\.)*"', re.MULTILINE | re.DOTALL)
 
 
 def parity_formula(sets: int) -> str:
@@ -125,8 +127,8 @@ def negation_fault(text: bytes, tree: Formula) -> Fault:
     """What is wrong with the deterministic automaton that is written of the negation of a formula: it is that of the
     negation's text, with the name that `--negated` alone writes."""
     plain = run_of(["ltl", "--deterministic", "-f", canonical(("!", tree)).decode()], b"")
-    title = next(line for line in run_of(["ltl", "--negated"], text).stdout.split(b"\n") if line.startswith(b"name:"))
-    named = plain.stdout.replace(b"HOA: v1\n", b"HOA: v1\n%s\n" % title, 1)
+    titles = TITLE.findall(run_of(["ltl", "--negated"], text).stdout)
+    named = plain.stdout.replace(b"HOA: v1\n", b"HOA: v1\n%s\n" % b"".join(titles[:1]), 1)
     ran = run_of(["ltl", "--negated", "--deterministic"], text)
     is_same = (ran.returncode, ran.stdout, ran.stderr) == (plain.returncode, named, plain.stderr)
     return None if is_same else f"of the negation {told(ran)}"
