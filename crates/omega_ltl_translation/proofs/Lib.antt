@@ -1,4 +1,5 @@
--- Lemmas by what they are about: graphs that grow, states that are reached and found, demands that are needed, joined edges, labels, what is written and what it means, and runs.
+-- Lemmas by what they are about: graphs that grow, states that are reached and found, demands that are needed, joined
+-- edges, labels, what is written and what it means, and runs.
 pub mod Growing
 pub mod Finding
 pub mod Reaching
